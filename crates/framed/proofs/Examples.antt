@@ -1,0 +1,11 @@
+-- Document 01's proved examples and its printed run, by computation. Assumes nothing.
+use mathlib.Core.Path.{refl}
+use Rattle.framed.specs.Examples.{ProvedExamples, PrintedRun, Examples}
+
+pub proved-examples : ProvedExamples
+unfolding ProvedExamples Examples
+proved-examples = (refl, refl, refl, refl, refl, refl, refl, refl, refl, refl, refl, refl, refl, refl)
+
+pub printed-run : PrintedRun
+unfolding PrintedRun Examples
+printed-run = refl

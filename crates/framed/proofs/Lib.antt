@@ -1,0 +1,9 @@
+pub mod General
+pub mod TokensExact
+pub mod ParseExact
+pub mod ParseFuel
+pub mod Accepted
+pub mod RefusalLowest
+pub mod ReachCounts
+pub mod StepJudged
+pub mod Examples

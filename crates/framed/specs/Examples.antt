@@ -1,0 +1,97 @@
+-- Document 01, "A printed run and the proved examples": what each example says, from the bytes of a source to the reports.
+-- `ProvedExamples` is the conjunction that the document asks for; `PrintedRun` is the example of `framerun`. Assumes nothing.
+use mathlib.Core.Path.{_≡_}
+use mathlib.Core.List.{List, [], _∷_, _++_}
+use mathlib.Core.Option.{Option, none, some}
+use Prim.Native.Nat.{ℕ, zero, suc}
+use Prim.Native.String.{String}
+use lib.ListN.{length}
+use Rattle.framed.specs.Common.{bytes}
+use Rattle.framed.specs.Tree.{Base, Instruction, Code, _then_}
+use Rattle.framed.specs.Paths.{Path, from-program}
+use Rattle.framed.specs.Meaning.{refusal}
+use Rattle.framed.specs.Program.{Program, program}
+use Rattle.framed.specs.Answers.{Stopped, Report}
+use Rattle.framed.specs.Calls.{Call, run-call, calls, at-start}
+use Rattle.framed.specs.Framerun.{right-memories, framerun, Framerun}
+
+-- ---- What the examples ask
+
+-- what load gives for a source, with F = T = 256
+unfoldable pub load-gives : List ℕ → ℕ
+load-gives source = refusal right-memories source 256 256
+
+-- the reports of a list of calls after the load of a source
+unfoldable pub reports-of : Option Program → ℕ → ℕ → List Call → List Report
+reports-of none F T cs = []
+reports-of (some p) F T cs = calls p F T cs (at-start p) .reports
+
+-- none where the source is refused
+unfoldable pub reports : List ℕ → ℕ → ℕ → List Call → List Report
+reports source F T cs =
+    elim (refusal right-memories source F T) [ zero ↦ reports-of (program source) F T cs | suc n ↦ [] ]
+
+-- a source whose Main.start is this code
+unfoldable pub main : String → List ℕ
+main code = bytes "frame: [ Main := frame: [ start := code { " ++ bytes code ++ bytes " } ] ]"
+
+-- one run of it
+unfoldable pub runs : String → List Report
+runs code = reports (main code) 256 256 (run-call 100 256 ∷ [])
+
+-- what a run reports that ends well after two steps, the second a show; and one that ends with a number before its first step
+abbrev pub shows : String → List Report
+shows line = Report.ran (Stopped.end 0) 2 (length (bytes line)) (bytes line) ∷ []
+
+abbrev pub ended : ℕ → List Report
+ended e = Report.ran (Stopped.end e) 0 0 [] ∷ []
+
+-- the instructions of the first code of a source
+unfoldable pub first-code : Option Program → List (Code Path)
+first-code none = []
+first-code (some p) = p .codes
+
+abbrev pub a-source-with-b : List ℕ
+a-source-with-b = bytes "frame: [ b := 5, Main := frame: [ start := code { show ^.^.b; } ] ]"
+
+-- the number of the name b in it
+abbrev pub b : ℕ
+b = 0
+
+-- ---- The conjunction
+
+unfoldable pub ProvedExamples : Type 0
+ProvedExamples =
+    (runs "self.x := 7 / -2; show self.x;" ≡ shows "-3\n")
+    × (runs "self.x := -7 / 2; show self.x;" ≡ shows "-3\n")
+    × (runs "self.x := -2147483648 / -1; show self.x;" ≡ ended 33)
+    × (runs "self.x := 2147483647 + 1; show self.x;" ≡ ended 33)
+    × (runs "self.x := !\"0\"; show self.x;" ≡ shows "0\n")
+    × (runs "self.x := !0; show self.x;" ≡ shows "1\n")
+    × (runs "self.x := 0 == \"0\"; show self.x;" ≡ shows "0\n")
+    × (runs "self.x := \"n=\" # -5; show self.x;" ≡ shows "n=-5\n")
+    -- in Main.start `^.^.b` is the list b, and there `^.^.^` is 10
+    × (first-code (program a-source-with-b) ≡ (Instruction.show (Base.path (from-program (b ∷ []))) then Code.finished) ∷ [])
+    × (load-gives (main "show ^.^.^;") ≡ 10)
+    × (load-gives (main "show self.a -1;") ≡ 6)
+    -- joining to 64 bytes works, to 65 ends 34
+    × (runs "self.x := \"0123456789abcdef0123456789abcdef\" # \"0123456789abcdef0123456789abcdef\"; show self.x;"
+    ≡ shows "0123456789abcdef0123456789abcdef0123456789abcdef0123456789abcdef\n")
+    × (runs "self.x := \"0123456789abcdef0123456789abcdef\" # \"0123456789abcdef0123456789abcdef!\"; show self.x;" ≡ ended 34)
+    -- three frames are reached at first: with F = 4 the first frame literal steps on, and the second ends 36
+    × (reports (main "self.x := frame: []; self.y := frame: [];") 4 0 (run-call 100 0 ∷ [])
+    ≡ Report.ran (Stopped.end 36) 1 0 [] ∷ [])
+
+-- ---- The printed run
+
+abbrev pub printed-source : List ℕ
+printed-source =
+    bytes "frame: [ Main := frame: [\n start := code { self.n := 7; jump ^.next self; },\n next := code { self.t := \"n=\" # self.n; show self.t; } ] ]\n"
+
+unfoldable pub PrintedRun : Type 0
+PrintedRun = framerun printed-source ≡ bytes "n=7\nend 0 steps 4 frames 3 texts 1\n"
+
+-- to compute with these, a proof unfolds `Examples`
+unfoldable pub Examples : Type 0
+unfolding load-gives reports-of reports main runs first-code Framerun
+Examples = ℕ

@@ -1,0 +1,24 @@
+-- Document 01 (Framed and its frame machine) as definitions, in the order of reading.
+pub mod Common
+pub mod Bytes
+pub mod Tokens
+pub mod Symbols
+pub mod Tree
+pub mod Grammar
+pub mod Parse
+pub mod Paths
+pub mod Meaning
+pub mod Refusals
+pub mod Program
+pub mod Values
+pub mod Fetch
+pub mod Reach
+pub mod Machine
+pub mod Judgments
+pub mod Answers
+pub mod Calls
+pub mod Alike
+pub mod Framerun
+pub mod Examples
+pub mod Theorems
+pub mod Demands

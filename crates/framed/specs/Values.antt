@@ -1,0 +1,104 @@
+-- Document 01, "The endless machine" (here: the unbounded machine): values, frames, texts and the heap; what each value is when it is shown, joined, compared or tested.
+-- Values are those of the crate's enums `Value` and `Text`. Assumes nothing.
+use mathlib.Core.Bool.{Bool, true, false}
+use mathlib.Core.List.{List, [], _∷_, _++_}
+use mathlib.Core.Option.{Option, none, some}
+use Prim.Native.Nat.{ℕ, zero, suc, _+_, _/_, _%_}
+use lib.IntN.{ℤ, pos, negsuc}
+use lib.ListN.{getD}
+use lib.Dec.{eqb, ltb}
+use Rattle.framed.specs.declared.Value.{Value}
+use Rattle.framed.specs.declared.Text.{Text}
+use Rattle.framed.specs.Common.{if_then_else_, bytes, same}
+
+-- A slot has the number of its name, and a value; a frame has its slots, in the order in which they were added
+pub record Slot : Type 0 where
+  pub name : ℕ
+  pub value : Value
+
+pub record Frame : Type 0 where
+  pub slots : List Slot
+
+-- a new frame with these slots, and a frame whose slots become these
+abbrev pub new-frame : List Slot → Frame
+new-frame ss = record { slots = ss }
+
+abbrev pub with-slots : Frame → List Slot → Frame
+with-slots f ss = record { slots = ss }
+
+-- The heap: frame n is the n-th frame, made text n the n-th text. It only grows
+pub record Heap : Type 0 where
+  pub frames : List Frame
+  pub texts : List (List ℕ)
+
+unfoldable pub empty-heap : Heap
+empty-heap = record { frames = []; texts = [] }
+
+-- the bytes of a text, where these are the program's literals and the made texts
+unfoldable pub text-bytes : List (List ℕ) → List (List ℕ) → Text → List ℕ
+text-bytes literals made (Text.Literal k) = getD literals k []
+text-bytes literals made (Text.Made k) = getD made k []
+
+-- the decimal digits of a number; its own size bounds how many there are
+unfoldable pub digits-within : ℕ → ℕ → List ℕ
+digits-within zero n = []
+digits-within (suc bound) n =
+    elim (ltb n 10) [ true ↦ (48 + n) ∷ [] | false ↦ digits-within bound (n / 10) ++ ((48 + n % 10) ∷ []) ]
+
+unfoldable pub decimal : ℤ → List ℕ
+decimal (pos n) = digits-within (suc n) n
+decimal (negsuc n) = 45 ∷ digits-within (suc (suc n)) (suc n)
+
+-- what `show` writes, without byte 10
+unfoldable pub shown : List (List ℕ) → List (List ℕ) → Value → List ℕ
+shown literals made (Value.Int z) = decimal z
+shown literals made (Value.Text t) = text-bytes literals made t
+shown literals made (Value.Code k) = bytes "code"
+shown literals made (Value.Frame n) = bytes "frame"
+
+-- what `#` joins: texts or decimal integers
+unfoldable pub joined : List (List ℕ) → List (List ℕ) → Value → Option (List ℕ)
+joined literals made (Value.Int z) = some (decimal z)
+joined literals made (Value.Text t) = some (text-bytes literals made t)
+joined literals made (Value.Code k) = none
+joined literals made (Value.Frame n) = none
+
+-- all but integer 0 are true
+unfoldable pub truth : Value → Bool
+truth (Value.Int (pos zero)) = false
+truth (Value.Int (pos (suc n))) = true
+truth (Value.Int (negsuc n)) = true
+truth (Value.Text t) = true
+truth (Value.Code k) = true
+truth (Value.Frame n) = true
+
+-- 1 or 0
+unfoldable pub bit : Bool → Value
+bit true = Value.Int (pos 1)
+bit false = Value.Int (pos 0)
+
+unfoldable pub same-integer : ℤ → ℤ → Bool
+same-integer (pos m) (pos n) = eqb m n
+same-integer (pos m) (negsuc n) = false
+same-integer (negsuc m) (pos n) = false
+same-integer (negsuc m) (negsuc n) = eqb m n
+
+-- `==`: equal integers, equal bytes of texts, the same code literal, or the same frame
+unfoldable pub equal-values : List (List ℕ) → List (List ℕ) → Value → Value → Bool
+equal-values literals made (Value.Int y) w =
+    elim w [ Value.Int z ↦ same-integer y z | Value.Text u ↦ false | Value.Code l ↦ false | Value.Frame m ↦ false ]
+equal-values literals made (Value.Text t) w =
+    elim w [
+      | Value.Int z ↦ false
+      | Value.Text u ↦ same (text-bytes literals made t) (text-bytes literals made u)
+      | Value.Code l ↦ false
+      | Value.Frame m ↦ false
+    ]
+equal-values literals made (Value.Code k) w =
+    elim w [ Value.Int z ↦ false | Value.Text u ↦ false | Value.Code l ↦ eqb k l | Value.Frame m ↦ false ]
+equal-values literals made (Value.Frame n) w =
+    elim w [ Value.Int z ↦ false | Value.Text u ↦ false | Value.Code l ↦ false | Value.Frame m ↦ eqb n m ]
+
+unfoldable pub Values : Type 0
+unfolding empty-heap text-bytes digits-within decimal shown joined truth bit same-integer equal-values
+Values = ℕ
