@@ -1,0 +1,15 @@
+use Rattle.heap.specs.Words.{set-self}
+use borrow.Author.Needs.{needs}
+use Rattle.heap.proofs.set_self.Statement.{statement}
+use Rattle.heap.proofs.set_self.Tie as tie
+
+returns : tie.Need-returns
+unfolding set-self
+returns c = cc
+
+pub set-self-spec : {M : Type 1} → statement M
+set-self-spec =
+    tie.close
+    (tie.spec
+    (λ c κs. search needs) (λ c κs. search needs) (λ c κs. search needs) (λ c κs. search needs) (λ c. search needs)
+    returns)

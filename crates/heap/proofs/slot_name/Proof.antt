@@ -1,0 +1,15 @@
+use Rattle.heap.specs.Words.{slot-name-at}
+use borrow.Author.Needs.{needs}
+use Rattle.heap.proofs.slot_name.Statement.{statement}
+use Rattle.heap.proofs.slot_name.Tie as tie
+
+returns : tie.Need-returns
+unfolding slot-name-at
+returns c = cc
+
+pub slot-name-spec : {M : Type 1} → statement M
+slot-name-spec =
+    tie.close
+    (tie.spec
+    (λ c κs. search needs) (λ c. search needs) (λ c. search needs) (λ c κs. search needs) (λ c. search needs)
+    (λ c. search needs) (λ c κs. search needs) returns)

@@ -1,0 +1,15 @@
+use Rattle.heap.specs.Words.{slot-number-at}
+use borrow.Author.Needs.{needs}
+use Rattle.heap.proofs.slot_number.Statement.{statement}
+use Rattle.heap.proofs.slot_number.Tie as tie
+
+returns : tie.Need-returns
+unfolding slot-number-at
+returns c = cc
+
+pub slot-number-spec : {M : Type 1} → statement M
+slot-number-spec =
+    tie.close
+    (tie.spec
+    (λ c κs. search needs) (λ c. search needs) (λ c. search needs) (λ c κs. search needs) (λ c. search needs)
+    (λ c. search needs) (λ c κs. search needs) returns)

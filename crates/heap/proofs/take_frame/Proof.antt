@@ -1,0 +1,15 @@
+use Rattle.heap.specs.Words.{take-frame}
+use borrow.Author.Needs.{needs}
+use Rattle.heap.proofs.take_frame.Statement.{statement}
+use Rattle.heap.proofs.take_frame.Tie as tie
+
+returns : tie.Need-returns
+unfolding take-frame
+returns c = cc
+
+pub take-frame-spec : {M : Type 1} → statement M
+take-frame-spec =
+    tie.close
+    (tie.spec
+    (λ c κs. search needs) (λ c. search needs) (λ c. search needs) (λ c κs. search needs) (λ c κs. search needs)
+    (λ c. search needs) (λ c. search needs) (λ c κs. search needs) (λ c. search needs) returns)

@@ -1,0 +1,50 @@
+-- One law for each way through the functions of this crate that branch. Assumes nothing.
+use Prim.Native.Nat.{ℕ, _≤_, _<_}
+use mathlib.Core.Path.{_≡_, refl}
+use mathlib.Core.List.{List}
+use mathlib.Core.Bool.{Bool, true, false, _&&_}
+use lib.ListN.{length}
+use lib.Dec.{eqb}
+use borrow.Author.Tests.{eq-eqb, ne-eqb, le-leb, lt-leb}
+use Rattle.heap.specs.Words.{frame-word, slot-count-at, text-length}
+use Rattle.state_form.specs.declared.Limits.{Limits}
+use Rattle.state_form.specs.Tests.{slots-formed, frame-formed, text-bytes-formed, text-formed, parts-formed, state-well-formed}
+
+-- frame_formed
+module _ (h : List ℕ) (l : Limits) (f w : ℕ) (ew : w ≡ frame-word h f) where
+  pub frame-off : w ≡ 0 → true ≡ frame-formed h l f
+  unfolding frame-formed
+  frame-off e = rw (← ew, e)
+
+  module _ (ne : w ≡ 0 → ⊥) (n : ℕ) (en : n ≡ slot-count-at h f) where
+    pub frame-many : 16 < n → false ≡ frame-formed h l f
+    unfolding frame-formed
+    frame-many lt = rw (← ew, ne-eqb w 0 ne, ← en, lt-leb n 16 lt)
+
+    pub frame-on : n ≤ 16 → (b : Bool) → b ≡ slots-formed h l f n → eqb w 1 && b ≡ frame-formed h l f
+    unfolding frame-formed
+    frame-on le b eb = rw (← ew, ne-eqb w 0 ne, ← en, le-leb n 16 le, eb)
+
+-- text_formed
+module _ (h t : List ℕ) (k n : ℕ) (en : n ≡ text-length h k) where
+  pub text-long : 64 < n → false ≡ text-formed h t k
+  unfolding text-formed
+  text-long lt = rw (← en, lt-leb n 64 lt)
+
+  pub text-short : n ≤ 64 → (b : Bool) → b ≡ text-bytes-formed t k n → b ≡ text-formed h t k
+  unfolding text-formed
+  text-short le b eb = rw (← en, le-leb n 64 le, eb)
+
+-- state_well_formed
+pub heap-short : (h t : List ℕ) (l : Limits) → (length h ≡ 16384 → ⊥) → false ≡ state-well-formed h t l
+unfolding state-well-formed
+heap-short h t l ne = rw (ne-eqb _ _ ne)
+
+module _ (h t : List ℕ) (l : Limits) (eh : length h ≡ 16384) where
+  pub texts-short : (length t ≡ 16384 → ⊥) → false ≡ state-well-formed h t l
+  unfolding state-well-formed
+  texts-short ne = rw (eq-eqb _ _ eh, ne-eqb _ _ ne)
+
+  pub parts-tell : length t ≡ 16384 → (b : Bool) → b ≡ parts-formed h t l → b ≡ state-well-formed h t l
+  unfolding state-well-formed
+  parts-tell et b eb = rw (eq-eqb _ _ eh, eq-eqb _ _ et, eb)

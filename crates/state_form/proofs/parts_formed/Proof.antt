@@ -1,0 +1,15 @@
+use Rattle.state_form.specs.Tests.{parts-formed}
+use borrow.Author.Needs.{needs}
+use Rattle.state_form.proofs.parts_formed.Statement.{statement}
+use Rattle.state_form.proofs.parts_formed.Tie as tie
+
+returns : tie.Need-returns
+unfolding parts-formed
+returns c = cc
+
+pub parts-formed-spec : {M : Type 1} → statement M
+parts-formed-spec =
+    tie.close
+    (tie.spec
+    (λ c κs. search needs) (λ c κs. search needs) (λ c κs. search needs) (λ c κs. search needs) (λ c κs. search needs)
+    (λ c κs. search needs) returns)
