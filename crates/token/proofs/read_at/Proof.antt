@@ -1,0 +1,42 @@
+use Rattle.framed.specs.Common.{Common}
+use Rattle.framed.specs.Bytes.{Bytes}
+use Rattle.token.proofs.Laws.{name-begins, digit-begins, read-a-name, read-a-natural, read-a-string, read-a-mark, minus-begins, read-a-negative, read-a-minus, zero-class}
+use borrow.Author.Needs.{needs}
+use Rattle.token.proofs.read_at.Statement.{statement}
+use Rattle.token.proofs.read_at.Tie as tie
+
+name-at-requires : tie.Need-name-at-requires
+name-at-requires c κs = search name-begins
+
+returns : tie.Need-returns
+returns c = search read-a-name
+
+natural-at-requires : tie.Need-natural-at-requires
+natural-at-requires c κs = search digit-begins
+
+returns-2 : tie.Need-returns-2
+returns-2 c = search read-a-natural
+
+returns-3 : tie.Need-returns-3
+returns-3 c = search read-a-string
+
+returns-4 : tie.Need-returns-4
+returns-4 c = search read-a-mark
+
+negative-at-requires : tie.Need-negative-at-requires
+unfolding Common Bytes
+negative-at-requires c κs = search minus-begins
+
+returns-5 : tie.Need-returns-5
+returns-5 c = search (read-a-negative, zero-class)
+
+returns-6 : tie.Need-returns-6
+returns-6 c = search (read-a-minus, zero-class)
+
+pub read-at-spec : {M : Type 1} → statement M
+read-at-spec =
+    tie.close
+    (tie.spec
+    (λ c κs. search needs) (λ c κs. search needs) name-at-requires returns natural-at-requires returns-2 (λ c κs. search needs)
+    returns-3 (λ c κs. search needs) returns-4 (λ c. search needs) (λ c κs. search needs) (λ c κs. search needs)
+    negative-at-requires returns-5 (λ c κs. search needs) returns-6)
