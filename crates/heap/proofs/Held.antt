@@ -1,30 +1,30 @@
 -- What the words hold after each updater: one law for the header, one for the frames and one for the made texts of each. A simulation speaks of these alone.
 -- Assumes nothing.
-use Prim.Native.Nat.{ℕ, zero, suc, _+_, _-_, _*_, _≤_, _<_}
+use Prim.Native.Nat.{ℕ, suc, _+_, _-_, _*_, _≤_, _<_}
 use mathlib.Core.Path.{_≡_, refl, _∙_, ap, ap₂, sym}
-use mathlib.Core.Logic.{_≢_, _⊎_, inl, inr}
-use mathlib.Core.List.{List, [], _∷_, _++_, List·Memᴰ, List·Memᴰ·not-nil, Memᴰ·map, Memᴰ·of-map, Memᴰ·cast}
-use mathlib.Core.Bool.{Bool, true, false, not}
+use mathlib.Core.Logic.{_≢_, _↔_}
+use mathlib.Core.List.{List, [], _∷_, _++_, List·Memᴰ, List·Memᴰ·not-nil, Memᴰ·map, Memᴰ·of-map}
+use mathlib.Core.Bool.{Bool, true, false}
 use mathlib.Core.Option.{some}
 use native.Mathlib.Omega.{arith}
 use native.Mathlib.Decide.{ℕ-discrete, decLt}
 use native.Mathlib.Numerals.{add-one}
 use lib.ListN.{length, getD, set, getElem?}
 use lib.Seq.{set-getD}
-use lib.Dec.{eqb}
 use borrow.Author.Tests.{ne-eqb}
-use Rattle.words.specs.Words.{pick, word}
+use Rattle.words.specs.Words.{word}
 use Rattle.framed.specs.declared.Value.{Value}
-use Rattle.framed.specs.Values.{Slot, Frame, Heap, new-frame}
+use Rattle.framed.specs.Values.{Slot, Frame, new-frame}
+use Rattle.framed.specs.Common.{has-twice}
 use Rattle.framed.specs.Reach.{slot-value, values-in}
-use Rattle.heap.specs.Closed.{Sized, ValueFits}
-use Rattle.heap.specs.Words.{self-held, program-held, position, end-mark, frame-word, frame-used, slot-count-at, slot-name-at, slot-value-at, text-word, text-used, text-length, text-byte}
+use Rattle.heap.specs.Closed.{Sized, ValueFits, FrameInUse, TextInUse}
+use Rattle.heap.specs.Words.{self-held, program-held, position, end-mark, frame-used, slot-count-at, slot-name-at, slot-value-at, text-word, text-used, text-length, text-byte}
 use Rattle.heap.specs.Words.{set-self, set-program, set-position, set-end-mark, set-slot-value, add-slot-at, add-slot, take-frame, free-frame, take-text, free-text, set-text-byte}
-use Rattle.heap.specs.Lists.{listed, passing}
+use Rattle.heap.specs.Lists.{listed}
 use Rattle.heap.specs.Held.{slot-held, slots-held, frame-held, text-held, frames-held, texts-held, heap-held, frames-in-use, texts-in-use}
-use Rattle.heap.proofs.Lists.{listed-length, listed-at, listed-past, listed-same, listed-set, listed-has, listed-from, elem-at, passing-same, passing-more}
+use Rattle.heap.proofs.Lists.{listed-length, listed-at, listed-past, listed-same, listed-set, listed-has, listed-from, elem-at, passing-same, passing-more, passing-means, passing-has, passing-once, _∈_}
 use Rattle.heap.proofs.Laws.{Local, Same, local-same, same-part, same-self, same-program, same-position, same-end-mark}
-use Rattle.heap.proofs.Laws.{same-frame-word, same-frame-used, same-count, same-name, same-value, same-text-word, same-text-used, same-text-length}
+use Rattle.heap.proofs.Laws.{same-frame-used, same-count, same-name, same-value, same-text-word, same-text-used, same-text-length, text-word-free}
 use Rattle.heap.proofs.Laws.{set-self-local, set-self-self, set-program-local, set-program-program, set-position-local, set-position-position, set-end-local, set-end-end}
 use Rattle.heap.proofs.Laws.{set-slot-local, set-slot-is, set-slot-count, set-slot-name, set-slot-other}
 use Rattle.heap.proofs.Laws.{add-slot-is, add-slot-local, add-slot-count, add-slot-name, add-slot-value, add-slot-old-name, add-slot-old-value}
@@ -57,7 +57,55 @@ module _ (h : List ℕ) where
   unfolding frame-held
   frame-of-free f e = rw e
 
+  -- the slots of a frame, the bytes of a text
+  pub slots-length : (f : ℕ) → length (slots-held h f) ≡ slot-count-at h f
+  unfolding slots-held
+  slots-length f = listed-length (slot-held h f) (slot-count-at h f)
+
+  pub slot-at : (f i : ℕ) (d : Slot) → i < slot-count-at h f → getD (slots-held h f) i d ≡ record { name = slot-name-at h f i; value = slot-value-at h f i }
+  unfolding slots-held slot-held
+  slot-at f i d lt = listed-at (slot-held h f) (slot-count-at h f) i d lt
+
+  pub bytes-length : (t : List ℕ) (k : ℕ) → length (text-held h t k) ≡ text-length h k
+  unfolding text-held
+  bytes-length t k = listed-length (text-byte t k) (text-length h k)
+
+  pub byte-at : (t : List ℕ) (k i : ℕ) → i < text-length h k → getD (text-held h t k) i 0 ≡ text-byte t k i
+  unfolding text-held
+  byte-at t k i lt = listed-at (text-byte t k) (text-length h k) i 0 lt
+
+  -- the numbers in use
+  pub frame-counted : (f : ℕ) → (f ∈ frames-in-use h) ↔ FrameInUse h f
+  unfolding frames-in-use
+  frame-counted f = (
+    λ i. let p = passing-means (frame-used h) 256 f i in record { small = p .0; used = p .1 },
+    λ u. passing-has (frame-used h) 256 f (u .small) (u .used),
+  )
+
+  pub text-counted : (k : ℕ) → (k ∈ texts-in-use h) ↔ TextInUse h k
+  unfolding texts-in-use
+  text-counted k = (
+    λ i. let p = passing-means (text-used h) 256 k i in record { small = p .0; used = p .1 },
+    λ u. passing-has (text-used h) 256 k (u .small) (u .used),
+  )
+
+  pub frames-once : has-twice (frames-in-use h) ≡ false
+  unfolding frames-in-use
+  frames-once = passing-once (frame-used h) 256
+
+  pub texts-once : has-twice (texts-in-use h) ≡ false
+  unfolding texts-in-use
+  texts-once = passing-once (text-used h) 256
+
   module _ (t : List ℕ) where
+    pub heap-frames : heap-held h t .frames ≡ frames-held h
+    unfolding heap-held
+    heap-frames = refl
+
+    pub heap-texts : heap-held h t .texts ≡ texts-held h t
+    unfolding heap-held
+    heap-texts = refl
+
     pub texts-length : length (texts-held h t) ≡ 256
     unfolding texts-held
     texts-length = listed-length (text-held h t) 256
@@ -301,18 +349,18 @@ module _ (h h′ : List ℕ) (s : Sized h) (f : ℕ) (hf : f < 256) (l : Local (
       go g lt (yes e) u = rw e (p (rw e at u))
       go g lt (no ne) u = rw (same-count {h = h} {h′ = h′} g (same-part (apart g ne) _ _ (omega arith) (omega arith))) (s .slots g lt (sym (others-used g ne) ∙ u))
 
-  kept-texts : SameTexts h h′
+  pub kept-texts : SameTexts h h′
   kept-texts = low-texts l (omega arith)
 
   kept-header : SameHeader h h′
   kept-header = high-header l (omega arith)
 
 -- the frame's own words, its first aside
-widen : {h h′ : List ℕ} (f : ℕ) → Local (129 + 51 * f) (179 + 51 * f) h h′ → Local (128 + 51 * f) (179 + 51 * f) h h′
+pub widen : {h h′ : List ℕ} (f : ℕ) → Local (129 + 51 * f) (179 + 51 * f) h h′ → Local (128 + 51 * f) (179 + 51 * f) h h′
 widen f l = record { size = l .size; away = λ k n. l .away k (λ lo hi. n (omega arith) (omega arith)) }
 
 module _ (h h′ : List ℕ) (s : Sized h) (f : ℕ) (hf : f < 256) (l : Local (129 + 51 * f) (179 + 51 * f) h h′) where
-  body-used : (g : ℕ) → frame-used h′ g ≡ frame-used h g
+  pub body-used : (g : ℕ) → frame-used h′ g ≡ frame-used h g
   body-used g = go (ℕ-discrete g f)
     where
       go : Dec (g ≡ f) → frame-used h′ g ≡ frame-used h g
@@ -497,10 +545,6 @@ used-word : (h : List ℕ) (k w : ℕ) → text-word h k ≡ w → w ≢ 0 → t
 unfolding text-used
 used-word h k w e ne = rw (e, ne-eqb w 0 ne)
 
-free-word : (h : List ℕ) (k : ℕ) → text-word h k ≡ 0 → text-used h k ≡ false
-unfolding text-used
-free-word h k e = rw e
-
 held-word : (h t : List ℕ) (k n w : ℕ) → text-word h k ≡ w → w - 1 ≡ n → text-held h t k ≡ listed (text-byte t k) n
 unfolding text-held text-length
 held-word h t k n w e q = rw (e, q)
@@ -541,7 +585,7 @@ module _ (h : List ℕ) (s : Sized h) (k : ℕ) (hk : k < 256) where
   free-text-texts t = texts-with h _ s k hk free-text-within t [] (held-word _ t k 0 0 (free-text-word h k (s .size) hk) refl)
 
   pub free-text-used : text-used (free-text h k) k ≡ false
-  free-text-used = free-word _ k (free-text-word h k (s .size) hk)
+  free-text-used = text-word-free _ k (free-text-word h k (s .size) hk)
 
   pub free-text-others : (j : ℕ) → j ≢ k → text-used (free-text h k) j ≡ text-used h j
   free-text-others = others-texts h _ s k hk free-text-within

@@ -1,7 +1,7 @@
 -- What each accessor reads after each updater. `Local a b h h'`: h' differs from h in the words from a up to b alone; `Same a b h h'`: they agree there.
 -- Each updater is shown `Local` once, each accessor is shown kept by `Same` once. Assumes nothing.
-use Prim.Native.Nat.{ℕ, zero, suc, _+_, _-_, _*_, _≤_, _<_}
-use mathlib.Core.Path.{_≡_, refl, _∙_, ap, ap₂, sym}
+use Prim.Native.Nat.{ℕ, _+_, _-_, _*_, _≤_, _<_}
+use mathlib.Core.Path.{_≡_, refl, _∙_, ap, ap₂}
 use mathlib.Core.Logic.{_≢_}
 use mathlib.Core.List.{List}
 use mathlib.Core.Bool.{true, false, not}
@@ -63,6 +63,19 @@ value-fits t n =
     (λ e. record { int = λ y q. absurd (let p : _≡_ {A = ℕ} 0 1 = cc in omega arith) }) (λ e. record { int = λ y q. absurd (let p : _≡_ {A = ℕ} 0 1 = cc in omega arith) })
     (λ e. record { int = λ y q. absurd (let p : _≡_ {A = ℕ} 0 1 = cc in omega arith) })
 
+module _ (h : List ℕ) where
+  pub self-fits : ValueFits (self-held h)
+  unfolding self-held
+  self-fits = value-fits _ _
+
+  pub program-fits : ValueFits (program-held h)
+  unfolding program-held
+  program-fits = value-fits _ _
+
+  pub slot-fits : (f i : ℕ) → ValueFits (slot-value-at h f i)
+  unfolding slot-value-at
+  slot-fits f i = value-fits _ _
+
 -- ---- Regions
 
 pub record Local (a b : ℕ) (h h′ : List ℕ) : Type 0 where
@@ -83,6 +96,30 @@ local-same l c d n = record { agree = λ k lo hi. l .away k (n k lo hi) }
 
 pub same-part : {a b : ℕ} {h h′ : List ℕ} → Same a b h h′ → (c d : ℕ) → a ≤ c → d ≤ b → Same c d h h′
 same-part s c d le le′ = record { agree = λ k lo hi. s .agree k (omega arith) (omega arith) }
+
+-- ---- In use or not, by the one word that says it
+
+module _ (h h′ : List ℕ) (n : ℕ) where
+  pub frame-used-word : frame-word h′ n ≡ frame-word h n → frame-used h′ n ≡ frame-used h n
+  unfolding frame-used
+  frame-used-word e = ap (λ (x : ℕ). eqb x 1) e
+
+  pub text-used-word : text-word h′ n ≡ text-word h n → text-used h′ n ≡ text-used h n
+  unfolding text-used
+  text-used-word e = ap (λ (x : ℕ). not (eqb x 0)) e
+
+  pub text-length-word : text-word h′ n ≡ text-word h n → text-length h′ n ≡ text-length h n
+  unfolding text-length
+  text-length-word e = ap (λ (x : ℕ). x - 1) e
+
+module _ (h : List ℕ) (n : ℕ) where
+  pub frame-word-free : frame-word h n ≡ 0 → frame-used h n ≡ false
+  unfolding frame-used
+  frame-word-free e = rw e
+
+  pub text-word-free : text-word h n ≡ 0 → text-used h n ≡ false
+  unfolding text-used
+  text-word-free e = rw e
 
 -- ---- What agreement keeps
 
@@ -109,8 +146,7 @@ module _ {h h′ : List ℕ} where
     same-frame-word s = s .agree (128 + 51 * g) (omega arith) (omega arith)
 
     pub same-frame-used : Same (128 + 51 * g) (129 + 51 * g) h h′ → frame-used h′ g ≡ frame-used h g
-    unfolding frame-used
-    same-frame-used s = ap (λ (x : ℕ). eqb x 1) (same-frame-word s)
+    same-frame-used s = frame-used-word h h′ g (same-frame-word s)
 
     -- the words of a frame but for the first: its slots
     module _ (s : Same (129 + 51 * g) (179 + 51 * g) h h′) where
@@ -140,12 +176,10 @@ module _ {h h′ : List ℕ} where
     same-text-word = s .agree (13184 + k) (omega arith) (omega arith)
 
     pub same-text-used : text-used h′ k ≡ text-used h k
-    unfolding text-used
-    same-text-used = ap (λ (x : ℕ). not (eqb x 0)) same-text-word
+    same-text-used = text-used-word h h′ k same-text-word
 
     pub same-text-length : text-length h′ k ≡ text-length h k
-    unfolding text-length
-    same-text-length = ap (λ (x : ℕ). x - 1) same-text-word
+    same-text-length = text-length-word h h′ k same-text-word
 
 -- ---- The header
 
@@ -190,9 +224,17 @@ module _ (h : List ℕ) (f i : ℕ) (v : Value) (size : length h ≡ 16384) (hf 
   unfolding set-slot-value
   set-slot-local = local-trans (local-set _ _ h _ _ (omega arith) (omega arith)) (local-set _ _ _ _ _ (omega arith) (omega arith))
 
+  pub set-slot-tag : slot-tag-at (set-slot-value h f i v) f i ≡ tag-of v
+  unfolding set-slot-value slot-tag-at
+  set-slot-tag = word-other _ _ _ _ _ (omega arith) (word-same _ _ _ (omega arith))
+
+  pub set-slot-number : slot-number-at (set-slot-value h f i v) f i ≡ number-of v
+  unfolding set-slot-value slot-number-at
+  set-slot-number = word-same _ _ _ (simp set-size (omega arith))
+
   pub set-slot-is : ValueFits v → slot-value-at (set-slot-value h f i v) f i ≡ v
-  unfolding set-slot-value slot-value-at slot-tag-at slot-number-at
-  set-slot-is vf = value-read _ _ v vf (word-other _ _ _ _ _ (omega arith) (word-same _ _ _ (omega arith))) (word-same _ _ _ (simp set-size (omega arith)))
+  unfolding slot-value-at
+  set-slot-is vf = value-read _ _ v vf set-slot-tag set-slot-number
 
   pub set-slot-count : slot-count-at (set-slot-value h f i v) f ≡ slot-count-at h f
   unfolding set-slot-value slot-count-at
@@ -202,12 +244,17 @@ module _ (h : List ℕ) (f i : ℕ) (v : Value) (size : length h ≡ 16384) (hf 
   unfolding set-slot-value slot-name-at
   set-slot-name j hj = word-other _ _ _ _ _ (omega arith) (word-other _ _ _ _ _ (omega arith) refl)
 
+  pub set-slot-other-tag : (j : ℕ) → j < 16 → j ≢ i → slot-tag-at (set-slot-value h f i v) f j ≡ slot-tag-at h f j
+  unfolding set-slot-value slot-tag-at
+  set-slot-other-tag j hj ne = word-other _ _ _ _ _ (omega arith) (word-other _ _ _ _ _ (omega arith) refl)
+
+  pub set-slot-other-number : (j : ℕ) → j < 16 → j ≢ i → slot-number-at (set-slot-value h f i v) f j ≡ slot-number-at h f j
+  unfolding set-slot-value slot-number-at
+  set-slot-other-number j hj ne = word-other _ _ _ _ _ (omega arith) (word-other _ _ _ _ _ (omega arith) refl)
+
   pub set-slot-other : (j : ℕ) → j < 16 → j ≢ i → slot-value-at (set-slot-value h f i v) f j ≡ slot-value-at h f j
-  unfolding set-slot-value slot-value-at slot-tag-at slot-number-at
-  set-slot-other j hj ne =
-      ap₂ value-of
-      (word-other _ _ _ _ _ (omega arith) (word-other _ _ _ _ _ (omega arith) refl))
-      (word-other _ _ _ _ _ (omega arith) (word-other _ _ _ _ _ (omega arith) refl))
+  unfolding slot-value-at
+  set-slot-other j hj ne = ap₂ value-of (set-slot-other-tag j hj ne) (set-slot-other-number j hj ne)
 
 -- add_slot, with room
 module _ (h : List ℕ) (f x : ℕ) (v : Value) (room : slot-count-at h f < 16) where
@@ -231,23 +278,33 @@ module _ (h : List ℕ) (f n x : ℕ) (v : Value) (size : length h ≡ 16384) (h
   unfolding add-slot-at set-slot-value slot-name-at
   add-slot-name = word-other _ _ _ _ _ (omega arith) (word-other _ _ _ _ _ (omega arith) (word-other _ _ _ _ _ (omega arith) (word-same _ _ _ (omega arith))))
 
+  pub add-slot-tag : slot-tag-at (add-slot-at h f n x v) f n ≡ tag-of v
+  unfolding add-slot-at set-slot-value slot-tag-at
+  add-slot-tag = word-other _ _ _ _ _ (omega arith) (word-other _ _ _ _ _ (omega arith) (word-same _ _ _ (simp set-size (omega arith))))
+
+  pub add-slot-number : slot-number-at (add-slot-at h f n x v) f n ≡ number-of v
+  unfolding add-slot-at set-slot-value slot-number-at
+  add-slot-number = word-other _ _ _ _ _ (omega arith) (word-same _ _ _ (simp set-size (omega arith)))
+
   pub add-slot-value : ValueFits v → slot-value-at (add-slot-at h f n x v) f n ≡ v
-  unfolding add-slot-at set-slot-value slot-value-at slot-tag-at slot-number-at
-  add-slot-value vf =
-      value-read _ _ v vf
-      (word-other _ _ _ _ _ (omega arith) (word-other _ _ _ _ _ (omega arith) (word-same _ _ _ (simp set-size (omega arith)))))
-      (word-other _ _ _ _ _ (omega arith) (word-same _ _ _ (simp set-size (omega arith))))
+  unfolding slot-value-at
+  add-slot-value vf = value-read _ _ v vf add-slot-tag add-slot-number
 
   pub add-slot-old-name : (j : ℕ) → j < n → slot-name-at (add-slot-at h f n x v) f j ≡ slot-name-at h f j
   unfolding add-slot-at set-slot-value slot-name-at
   add-slot-old-name j hj = word-other _ _ _ _ _ (omega arith) (word-other _ _ _ _ _ (omega arith) (word-other _ _ _ _ _ (omega arith) (word-other _ _ _ _ _ (omega arith) refl)))
 
+  pub add-slot-old-tag : (j : ℕ) → j < n → slot-tag-at (add-slot-at h f n x v) f j ≡ slot-tag-at h f j
+  unfolding add-slot-at set-slot-value slot-tag-at
+  add-slot-old-tag j hj = word-other _ _ _ _ _ (omega arith) (word-other _ _ _ _ _ (omega arith) (word-other _ _ _ _ _ (omega arith) (word-other _ _ _ _ _ (omega arith) refl)))
+
+  pub add-slot-old-number : (j : ℕ) → j < n → slot-number-at (add-slot-at h f n x v) f j ≡ slot-number-at h f j
+  unfolding add-slot-at set-slot-value slot-number-at
+  add-slot-old-number j hj = word-other _ _ _ _ _ (omega arith) (word-other _ _ _ _ _ (omega arith) (word-other _ _ _ _ _ (omega arith) (word-other _ _ _ _ _ (omega arith) refl)))
+
   pub add-slot-old-value : (j : ℕ) → j < n → slot-value-at (add-slot-at h f n x v) f j ≡ slot-value-at h f j
-  unfolding add-slot-at set-slot-value slot-value-at slot-tag-at slot-number-at
-  add-slot-old-value j hj =
-      ap₂ value-of
-      (word-other _ _ _ _ _ (omega arith) (word-other _ _ _ _ _ (omega arith) (word-other _ _ _ _ _ (omega arith) (word-other _ _ _ _ _ (omega arith) refl))))
-      (word-other _ _ _ _ _ (omega arith) (word-other _ _ _ _ _ (omega arith) (word-other _ _ _ _ _ (omega arith) (word-other _ _ _ _ _ (omega arith) refl))))
+  unfolding slot-value-at
+  add-slot-old-value j hj = ap₂ value-of (add-slot-old-tag j hj) (add-slot-old-number j hj)
 
 -- take_frame, free_frame
 module _ (h : List ℕ) (f : ℕ) (size : length h ≡ 16384) (hf : f < 256) where
@@ -255,9 +312,13 @@ module _ (h : List ℕ) (f : ℕ) (size : length h ≡ 16384) (hf : f < 256) whe
   unfolding take-frame
   take-frame-local = local-trans (local-set _ _ h _ _ (omega arith) (omega arith)) (local-set _ _ _ _ _ (omega arith) (omega arith))
 
+  pub take-frame-word : frame-word (take-frame h f) f ≡ 1
+  unfolding take-frame frame-word
+  take-frame-word = word-other _ _ _ _ _ (omega arith) (word-same _ _ _ (omega arith))
+
   pub take-frame-used : frame-used (take-frame h f) f ≡ true
-  unfolding take-frame frame-used frame-word
-  take-frame-used = ap (λ (n : ℕ). eqb n 1) (word-other _ _ _ _ _ (omega arith) (word-same _ _ _ (omega arith)))
+  unfolding frame-used
+  take-frame-used = ap (λ (n : ℕ). eqb n 1) take-frame-word
 
   pub take-frame-count : slot-count-at (take-frame h f) f ≡ 0
   unfolding take-frame slot-count-at
@@ -272,8 +333,7 @@ module _ (h : List ℕ) (f : ℕ) (size : length h ≡ 16384) (hf : f < 256) whe
   free-frame-word = word-same _ _ _ (omega arith)
 
   pub free-frame-used : frame-used (free-frame h f) f ≡ false
-  unfolding frame-used
-  free-frame-used = ap (λ (n : ℕ). eqb n 1) free-frame-word
+  free-frame-used = frame-word-free (free-frame h f) f free-frame-word
 
 -- ---- Made texts
 

@@ -1,20 +1,37 @@
 -- Lists made from the numbers below a bound, and lists of numbers without repeats. Nothing here is about Framed. Assumes nothing.
-use Prim.Native.Nat.{ℕ, zero, suc, _+_, _≤_, _<_}
+use Prim.Native.Nat.{ℕ, zero, suc, _+_, _-_, _≤_, _<_}
 use mathlib.Core.Path.{_≡_, refl, _∙_, ap, ap₂, sym, subst}
 use mathlib.Core.Logic.{_≢_, _⊎_, inl, inr, ⊎-elim}
-use mathlib.Core.List.{List, [], _∷_, _++_, List·Memᴰ, List·Memᴰ·head, List·Memᴰ·tail, Memᴰ·append-left, Memᴰ·append-right, List·Memᴰ·append-cases, List·Memᴰ·cases-cons, List·Memᴰ·not-nil}
+use mathlib.Core.List.{List, [], _∷_, _++_, List·Memᴰ, List·Memᴰ·head, Memᴰ·append-left, Memᴰ·append-right, List·Memᴰ·append-cases, List·Memᴰ·cases-cons, List·Memᴰ·not-nil}
 use mathlib.Core.Bool.{Bool, true, false, _||_, true≢false}
-use mathlib.Core.Option.{Option, some, none}
+use mathlib.Core.Option.{some, none}
 use native.Mathlib.Omega.{arith}
 use native.Mathlib.Decide.{ℕ-discrete, decLt}
-use lib.ListN.{length, getD, set, getElem?, length-append, length-set, List·getD-append, List·getD-eq-default}
+use lib.ListN.{length, getD, set, getElem?, length-append, length-set, List·getD-append, List·getD-eq-default, replicate, length-replicate, getD-replicate}
 use lib.Seq.{getD-append-seam, getD-set-same, getD-set-other, ext-getD}
 use lib.Dec.{eqb}
-use borrow.Author.Tests.{eq-eqb, ne-eqb, eqb-true}
+use borrow.Author.Tests.{eq-eqb, eqb-true}
 use Rattle.words.specs.Words.{pick}
-use Rattle.framed.specs.Common.{any, member, has-twice}
+use Rattle.framed.specs.Common.{member, has-twice}
 use Rattle.framed.proofs.ReachCounts.{cons-cases, here, there, nothing-in}
 use Rattle.heap.specs.Lists.{listed, passing}
+
+-- ---- What is left of a count
+
+pub left-more : (n i : ℕ) → i < n → n - i ≡ suc (n - (i + 1))
+left-more n i lt = omega arith
+
+pub left-none : (n i : ℕ) → n ≤ i → n - i ≡ 0
+left-none n i le = omega arith
+
+-- ---- A list of zeros
+
+pub zeros-at : (n j : ℕ) → _≡_ {A = ℕ} (getD (replicate n 0) j 0) 0
+zeros-at n j = go (decLt j n)
+  where
+    go : Dec (j < n) → _≡_ {A = ℕ} (getD (replicate n 0) j 0) 0
+    go (yes lt) = getD-replicate n j 0 0 lt
+    go (no ge) = List·getD-eq-default (replicate n 0) 0 {n = j} (omega (arith, length-replicate {A = ℕ} n 0))
 
 -- ---- What a function gives at each number below n
 
@@ -86,6 +103,18 @@ module _ {A : Type 0} where
   elem-past [] k le = refl
   elem-past (x ∷ l) zero le = absurd (omega arith)
   elem-past (x ∷ l) (suc k) le = elem-past l k (omega arith)
+
+  pub elem-set-same : (l : List A) (k : ℕ) (a : A) → k < length l → getElem? (set l k a) k ≡ some a
+  elem-set-same [] k a lt = absurd (omega arith)
+  elem-set-same (x ∷ l) zero a lt = refl
+  elem-set-same (x ∷ l) (suc k) a lt = elem-set-same l k a (omega arith)
+
+  pub elem-set-other : (l : List A) (k j : ℕ) (a : A) → j ≢ k → getElem? (set l k a) j ≡ getElem? l j
+  elem-set-other [] k j a ne = refl
+  elem-set-other (x ∷ l) zero zero a ne = absurd (ne refl)
+  elem-set-other (x ∷ l) zero (suc j) a ne = refl
+  elem-set-other (x ∷ l) (suc k) zero a ne = refl
+  elem-set-other (x ∷ l) (suc k) (suc j) a ne = elem-set-other l k j a (omega arith)
 
 -- ---- Numbers in a list
 
@@ -203,6 +232,11 @@ module _ (t : ℕ → Bool) where
       go true f (yes q) ih = absurd (true≢false (sym f ∙ ap t (sym q) ∙ e))
       go true f (no q) ih = let r : length (passing t n) < n = ih (omega arith) e in omega arith
       go false f d ih = let r = passing-below n in omega arith
+
+pub passing-none : (t : ℕ → Bool) (n : ℕ) → ((k : ℕ) → k < n → t k ≡ false) → length (passing t n) ≡ 0
+unfolding passing
+passing-none t zero p = refl
+passing-none t (suc n) p = passing-no t n (p n (omega arith)) ∙ passing-none t n (λ k lt. p k (omega arith))
 
 -- two tests that agree, or that agree but for one number
 pub passing-same : (t t′ : ℕ → Bool) (n : ℕ) → ((k : ℕ) → k < n → t′ k ≡ t k) → passing t′ n ≡ passing t n

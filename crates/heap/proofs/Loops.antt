@@ -1,7 +1,7 @@
 -- One law for each way through the functions of this crate that branch or loop. Assumes nothing.
-use Prim.Native.Nat.{ℕ, zero, suc, _+_, _-_, _*_, _≤_, _<_}
+use Prim.Native.Nat.{ℕ, suc, _+_, _-_, _*_, _≤_, _<_}
 use mathlib.Core.Path.{_≡_, refl, _∙_, ap, sym}
-use mathlib.Core.List.{List, []}
+use mathlib.Core.List.{List}
 use mathlib.Core.Bool.{Bool, true, false}
 use native.Mathlib.Omega.{arith}
 use native.Mathlib.Numerals.{add-one}
@@ -9,7 +9,7 @@ use lib.ListN.{length}
 use lib.IntN.{ℤ}
 use borrow.Author.Tests.{le-leb, lt-leb, lt-ltb, le-ltb}
 use Rattle.ints.specs.Ints.{word-of}
-use Rattle.words.specs.Words.{pick, set-word}
+use Rattle.words.specs.Words.{set-word}
 use Rattle.framed.specs.declared.Value.{Value}
 use Rattle.heap.specs.Words.{number-of, slot-count-at, set-slot-value, add-slot-at, add-slot, take-text, text-word, text-length, frame-used, text-used}
 use Rattle.heap.specs.Lists.{passing}

@@ -1,4 +1,4 @@
--- A test that decides a fact: it is true exactly where the fact holds; and how tests are put together. Nothing here is about Framed. Assumes nothing.
+-- How tests that decide facts are put together. Nothing here is about Framed. Assumes nothing.
 use Prim.Native.Nat.{ℕ, _≤_, _<_}
 use mathlib.Core.Path.{_≡_, refl}
 use mathlib.Core.Logic.{_≢_, _⊎_, inl, inr, ⊎-elim}
@@ -6,11 +6,8 @@ use mathlib.Core.Bool.{Bool, true, false, not, _&&_, _||_, true≢false}
 use lib.Dec.{eqb, ltb, leb}
 use borrow.Author.Tests.{eq-eqb, ne-eqb, eqb-true, eqb-false, lt-ltb, ltb-true, le-leb, leb-true, not-true}
 use Rattle.words.specs.Words.{all-below}
+use Rattle.state_form.specs.Tests.{Decides}
 use Rattle.words.proofs.Laws.{all-means, all-if}
-
-pub record Decides (b : Bool) (P : Type 0) : Type 0 where
-  pub if-true : b ≡ true → P
-  pub only-if : P → b ≡ true
 
 pub record Both (P Q : Type 0) : Type 0 where
   pub first : P

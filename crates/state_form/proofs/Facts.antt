@@ -1,14 +1,14 @@
 -- The tests decide what Form states, both ways; and what callers take from a well-formed state. Assumes nothing.
-use Prim.Native.Nat.{ℕ, zero, suc, _+_, _-_, _≤_, _<_}
-use mathlib.Core.Path.{_≡_, refl, sym, _∙_, ap}
+use Prim.Native.Nat.{ℕ, _-_, _≤_, _<_}
+use mathlib.Core.Path.{_≡_, refl, sym, _∙_}
 use mathlib.Core.Logic.{_≢_, _⊎_, inl, inr, ⊎-elim}
 use mathlib.Core.List.{List}
 use mathlib.Core.Bool.{Bool, true, false, not, _&&_, _||_, true≢false}
 use native.Mathlib.Omega.{arith}
-use native.Mathlib.Decide.{ℕ-discrete, decLt, decLe}
+use native.Mathlib.Decide.{ℕ-discrete}
 use lib.ListN.{length}
 use lib.Dec.{eqb, ltb, leb}
-use borrow.Author.Tests.{eq-eqb, ne-eqb, eqb-true, eqb-false, not-true}
+use borrow.Author.Tests.{ne-eqb}
 use Rattle.words.specs.Words.{word}
 use Rattle.framed.specs.declared.Text.{Text}
 use Rattle.framed.specs.declared.Value.{Value}
@@ -20,8 +20,8 @@ use Rattle.heap.specs.Closed.{Sized, FrameInUse, TextInUse, NamesInUse, Closed}
 use Rattle.state_form.specs.declared.Limits.{Limits}
 use Rattle.state_form.specs.Form.{ValueFormed, SlotFormed, FrameFormed, TextFormed, StateWellFormed}
 use Rattle.state_form.specs.Tests.{frame-in-use, text-in-use, value-formed, name-apart, name-new, slot-formed, slots-formed, frame-formed, frames-formed}
-use Rattle.state_form.specs.Tests.{text-byte-formed, text-bytes-formed, text-formed, texts-formed, counts-formed, position-formed, end-formed, roots-formed, parts-formed, state-well-formed}
-use Rattle.state_form.proofs.Decide.{Decides, Both, Every, decides-lt, decides-le, decides-eq, decides-ne, decides-itself, decides-and, decides-or, decides-as, decides-all}
+use Rattle.state_form.specs.Tests.{text-byte-formed, text-bytes-formed, text-formed, texts-formed, counts-formed, position-formed, end-formed, roots-formed, parts-formed, state-well-formed, Decides, StateDecides}
+use Rattle.state_form.proofs.Decide.{Both, Every, decides-lt, decides-le, decides-eq, decides-ne, decides-itself, decides-and, decides-or, decides-as, decides-all}
 
 -- ---- Values
 
@@ -189,7 +189,7 @@ any-text h t k lt p = go (text-used h k) refl
 
 -- ---- The state
 
-pub state-decides : (h t : List ℕ) (l : Limits) → Decides (state-well-formed h t l) (StateWellFormed h t l)
+pub state-decides : StateDecides
 unfolding state-well-formed parts-formed roots-formed frames-formed texts-formed counts-formed position-formed end-formed
 state-decides h t l =
     decides-as
@@ -327,3 +327,11 @@ module _ {h t : List ℕ} {l : Limits} (w : StateWellFormed h t l) where
   pub slot-there : (f i : ℕ) → FrameInUse h f → i < slot-count-at h f → NamesThere l (slot-value-at h f i)
   unfolding slot-value-at
   slot-there f i u lt = read-formed h l (slot-tag-at h f i) (slot-number-at h f i) (w .frame f u .slot i lt .value) .second
+
+-- as callers have it: the answer of state_well_formed, and that it is true
+module _ (h t : List ℕ) (l : Limits) (b : Bool) (e : b ≡ state-well-formed h t l) where
+  pub decided-formed : b ≡ true → StateWellFormed h t l
+  decided-formed q = state-decides h t l .if-true (sym e ∙ q)
+
+  pub decided-closed : b ≡ true → Closed h
+  decided-closed q = well-formed-closed (decided-formed q)

@@ -1,3 +1,4 @@
 pub mod Laws
 pub mod Decide
 pub mod Facts
+pub mod Kept

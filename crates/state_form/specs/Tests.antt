@@ -1,8 +1,9 @@
 -- Document 01, "Whole memories" (here: well-formed), the clauses on heap words h and text bytes t, as the tests that the code makes. Form says what they mean;
--- that they decide it is `state-decides`. Assumes nothing.
+-- that they decide it is `StateDecides`. Assumes nothing.
 use Prim.Native.Nat.{ℕ}
+use mathlib.Core.Path.{_≡_}
 use mathlib.Core.List.{List}
-use mathlib.Core.Bool.{Bool, not, _&&_, _||_}
+use mathlib.Core.Bool.{Bool, true, not, _&&_, _||_}
 use lib.ListN.{length}
 use lib.Dec.{eqb, leb, ltb}
 use Rattle.words.specs.Words.{word, all-below}
@@ -10,6 +11,7 @@ use Rattle.framed.specs.Bytes.{string-byte}
 use Rattle.heap.specs.Words.{position, end-mark, frame-word, frame-used, slot-count-at, slot-name-at, slot-tag-at, slot-number-at, text-used, text-length, text-byte}
 use Rattle.heap.specs.Held.{frames-in-use, texts-in-use}
 use Rattle.state_form.specs.declared.Limits.{Limits}
+use Rattle.state_form.specs.Form.{StateWellFormed}
 
 unfoldable pub frame-in-use : List ℕ → ℕ → Bool
 frame-in-use h f = ltb f 256 && frame-used h f
@@ -72,3 +74,11 @@ parts-formed h t l = roots-formed h l && frames-formed h l && texts-formed h t &
 
 unfoldable pub state-well-formed : List ℕ → List ℕ → Limits → Bool
 state-well-formed h t l = eqb (length h) 16384 && (eqb (length t) 16384 && parts-formed h t l)
+
+-- A test decides a fact: it is true exactly where the fact holds. The test of the state decides what Form states
+pub record Decides (b : Bool) (P : Type 0) : Type 0 where
+  pub if-true : b ≡ true → P
+  pub only-if : P → b ≡ true
+
+abbrev pub StateDecides : Type 0
+StateDecides = (h t : List ℕ) (l : Limits) → Decides (state-well-formed h t l) (StateWellFormed h t l)

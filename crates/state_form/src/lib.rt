@@ -1,6 +1,5 @@
 // Whether heap words and text bytes are well-formed (document 01: whole), the half of that paragraph which is about them. No function here has a `requires`.
 ghost use mathlib.Core.Path.{_≡_};
-ghost use Rattle.framed.specs.Bytes.{string-byte};
 ghost use Rattle.state_form.specs.Tests.{frame-in-use, text-in-use, value-formed, name-apart, name-new, slot-formed, slots-formed, frame-formed};
 ghost use Rattle.state_form.specs.Tests.{frames-formed, text-byte-formed, text-bytes-formed, text-formed, texts-formed};
 ghost use Rattle.state_form.specs.Tests.{counts-formed, position-formed, end-formed, roots-formed, parts-formed, state-well-formed};

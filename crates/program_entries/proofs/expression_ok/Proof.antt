@@ -1,0 +1,13 @@
+use Rattle.program_entries.specs.Tests.{expression-ok}
+use borrow.Author.Needs.{needs}
+use Rattle.program_entries.proofs.expression_ok.Statement.{statement}
+use Rattle.program_entries.proofs.expression_ok.Tie as tie
+
+returns : tie.Need-returns
+unfolding expression-ok
+returns c = cc
+
+pub expression-ok-spec : {M : Type 1} → statement M
+expression-ok-spec =
+    tie.close (tie.spec
+    (λ c κs. search needs) (λ c κs. search needs) returns)

@@ -1,0 +1,14 @@
+use Rattle.program_names.specs.Tests.{name-ok}
+use borrow.Author.Needs.{needs}
+use Rattle.program_names.proofs.name_ok.Statement.{statement}
+use Rattle.program_names.proofs.name_ok.Tie as tie
+
+returns : tie.Need-returns
+unfolding name-ok
+returns c = cc
+
+pub name-ok-spec : {M : Type 1} → statement M
+name-ok-spec =
+    tie.close
+    (tie.spec
+    (λ c κs. search needs) (λ c κs. search needs) (λ c κs. search needs) (λ c κs. search needs) returns)

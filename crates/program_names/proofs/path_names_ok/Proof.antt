@@ -1,0 +1,30 @@
+use Prim.Native.Nat.{_-_}
+use native.Mathlib.Omega.{arith}
+use borrow.Author.Needs.{needs}
+use Rattle.program_names.specs.Tests.{path-names-ok, path-name-ok}
+use Rattle.words.proofs.Laws.{Upto, upto-start, upto-again, upto-end}
+use Rattle.program_names.proofs.path_names_ok.Statement.{statement}
+use Rattle.program_names.proofs.path_names_ok.Tie as tie
+
+abbrev Inv-loop : tie.InvT-loop
+Inv-loop p n ok₀ j₀ ok j = Upto (path-name-ok p) n j ok
+
+abbrev μ-loop : tie.MeasureT-loop
+μ-loop p n ok₀ j₀ ok j = n - j
+
+loop-holds : tie.Need-loop-holds Inv-loop μ-loop
+loop-holds c = search upto-start
+
+loop-again : tie.Need-loop-again Inv-loop μ-loop
+loop-again c = search upto-again
+
+returns : tie.Need-returns Inv-loop μ-loop
+unfolding path-names-ok
+returns c = search upto-end
+
+pub path-names-ok-spec : {M : Type 1} → statement M
+path-names-ok-spec =
+    tie.close
+    (tie.spec
+    Inv-loop μ-loop (λ c κs. search needs) loop-holds (λ c κs. search needs) (λ c. omega arith) (λ c. omega arith)
+    loop-again returns)

@@ -1,0 +1,177 @@
+// The tests of limits, names, literals and path names of program words and literal bytes. No function here has a `requires`.
+use tables::codes;
+use tables::expressions;
+use tables::frame_limit;
+use tables::instructions;
+use tables::literal_byte;
+use tables::literal_length;
+use tables::literals;
+use tables::name_byte;
+use tables::name_length;
+use tables::names;
+use tables::path_name;
+use tables::path_names;
+use tables::start;
+use tables::text_limit;
+ghost use mathlib.Core.Path.{_≡_};
+ghost use Rattle.framed.specs.Bytes.{string-byte};
+ghost use Rattle.program_names.specs.Tests.{limits-ok, name-byte-ok, name-bytes-ok, same-byte, same-bytes, names-differ, new-name, name-ok};
+ghost use Rattle.program_names.specs.Tests.{names-ok, literal-byte-ok, literal-bytes-ok, literal-ok, literals-ok, path-name-ok, path-names-ok, texts-ok};
+
+pub fn limits_ok(p: &[u32]) -> bool
+    ensures { λ r. ⌜ r ≡ limits-ok (now (p .entry)) ⌝ }
+{
+    (3 <= frame_limit(p))
+        & (frame_limit(p) <= 256)
+        & (text_limit(p) <= 256)
+        & (names(p) <= 128)
+        & (literals(p) <= 128)
+        & (expressions(p) <= 1024)
+        & (instructions(p) <= 512)
+        & (codes(p) <= 128)
+        & (path_names(p) <= 2048)
+        & (start(p) < codes(p))
+}
+
+fn name_byte_ok(p: &[u32], k: u32, i: u32) -> bool
+    ensures { λ r. ⌜ r ≡ name-byte-ok (now (p .entry)) k i ⌝ }
+{
+    (name_byte(p, k, i) < 256) | (name_length(p, k) <= i)
+}
+
+fn name_bytes_ok(p: &[u32], k: u32) -> bool
+    ensures { λ r. ⌜ r ≡ name-bytes-ok (now (p .entry)) k ⌝ }
+{
+    let mut ok = true;
+    let mut i = 0;
+    while i < 16 {
+        ok = ok & name_byte_ok(p, k, i);
+        i += 1;
+    }
+    ok
+}
+
+fn same_byte(p: &[u32], k: u32, j: u32, i: u32) -> bool
+    ensures { λ r. ⌜ r ≡ same-byte (now (p .entry)) k j i ⌝ }
+{
+    (name_byte(p, k, i) == name_byte(p, j, i)) | (name_length(p, k) <= i)
+}
+
+fn same_bytes(p: &[u32], k: u32, j: u32) -> bool
+    ensures { λ r. ⌜ r ≡ same-bytes (now (p .entry)) k j ⌝ }
+{
+    let mut ok = true;
+    let mut i = 0;
+    while i < 16 {
+        ok = ok & same_byte(p, k, j, i);
+        i += 1;
+    }
+    ok
+}
+
+fn names_differ(p: &[u32], k: u32, j: u32) -> bool
+    ensures { λ r. ⌜ r ≡ names-differ (now (p .entry)) k j ⌝ }
+{
+    !((name_length(p, k) == name_length(p, j)) & same_bytes(p, k, j))
+}
+
+// no name before k is name k
+fn new_name(p: &[u32], k: u32) -> bool
+    ensures { λ r. ⌜ r ≡ new-name (now (p .entry)) k ⌝ }
+{
+    let mut ok = true;
+    let mut j = 0;
+    while j < k {
+        ok = ok & names_differ(p, k, j);
+        j += 1;
+    }
+    ok
+}
+
+fn name_ok(p: &[u32], k: u32) -> bool
+    ensures { λ r. ⌜ r ≡ name-ok (now (p .entry)) k ⌝ }
+{
+    (1 <= name_length(p, k)) & (name_length(p, k) <= 16) & name_bytes_ok(p, k) & new_name(p, k)
+}
+
+fn names_ok(p: &[u32]) -> bool
+    ensures { λ r. ⌜ r ≡ names-ok (now (p .entry)) ⌝ }
+{
+    let n = names(p);
+    let mut ok = true;
+    let mut k = 0;
+    while k < n {
+        ok = ok & name_ok(p, k);
+        k += 1;
+    }
+    ok
+}
+
+// a byte that may stand in a string
+pub fn string_byte(b: u8) -> bool
+    ensures { λ r. ⌜ r ≡ string-byte b ⌝ }
+{
+    (32 <= b) & (b <= 126) & (b != 34)
+}
+
+fn literal_byte_ok(p: &[u32], l: &[u8], k: u32, i: u32) -> bool
+    ensures { λ r. ⌜ r ≡ literal-byte-ok (now (p .entry)) (now (l .entry)) k i ⌝ }
+{
+    string_byte(literal_byte(l, k, i)) | (literal_length(p, k) <= i)
+}
+
+fn literal_bytes_ok(p: &[u32], l: &[u8], k: u32) -> bool
+    ensures { λ r. ⌜ r ≡ literal-bytes-ok (now (p .entry)) (now (l .entry)) k ⌝ }
+{
+    let mut ok = true;
+    let mut i = 0;
+    while i < 64 {
+        ok = ok & literal_byte_ok(p, l, k, i);
+        i += 1;
+    }
+    ok
+}
+
+fn literal_ok(p: &[u32], l: &[u8], k: u32) -> bool
+    ensures { λ r. ⌜ r ≡ literal-ok (now (p .entry)) (now (l .entry)) k ⌝ }
+{
+    (literal_length(p, k) <= 64) & literal_bytes_ok(p, l, k)
+}
+
+fn literals_ok(p: &[u32], l: &[u8]) -> bool
+    ensures { λ r. ⌜ r ≡ literals-ok (now (p .entry)) (now (l .entry)) ⌝ }
+{
+    let n = literals(p);
+    let mut ok = true;
+    let mut k = 0;
+    while k < n {
+        ok = ok & literal_ok(p, l, k);
+        k += 1;
+    }
+    ok
+}
+
+fn path_name_ok(p: &[u32], j: u32) -> bool
+    ensures { λ r. ⌜ r ≡ path-name-ok (now (p .entry)) j ⌝ }
+{
+    path_name(p, j) < names(p)
+}
+
+fn path_names_ok(p: &[u32]) -> bool
+    ensures { λ r. ⌜ r ≡ path-names-ok (now (p .entry)) ⌝ }
+{
+    let n = path_names(p);
+    let mut ok = true;
+    let mut j = 0;
+    while j < n {
+        ok = ok & path_name_ok(p, j);
+        j += 1;
+    }
+    ok
+}
+
+pub fn texts_ok(p: &[u32], l: &[u8]) -> bool
+    ensures { λ r. ⌜ r ≡ texts-ok (now (p .entry)) (now (l .entry)) ⌝ }
+{
+    names_ok(p) & literals_ok(p, l) & path_names_ok(p)
+}

@@ -1,0 +1,15 @@
+use Rattle.program_parts.specs.Tests.{code-ok}
+use borrow.Author.Needs.{needs}
+use Rattle.program_tests.proofs.code_ok.Statement.{statement}
+use Rattle.program_tests.proofs.code_ok.Tie as tie
+
+returns : tie.Need-returns
+unfolding code-ok
+returns c = cc
+
+pub code-ok-spec : {M : Type 1} → statement M
+code-ok-spec =
+    tie.close
+    (tie.spec
+    (λ c κs. search needs) (λ c. search needs) (λ c κs. search needs) (λ c κs. search needs) (λ c κs. search needs)
+    returns)

@@ -1,0 +1,14 @@
+use Rattle.program_parts.specs.Tests.{instruction-marked-as}
+use borrow.Author.Needs.{needs}
+use Rattle.program_tests.proofs.instruction_marked.Statement.{statement}
+use Rattle.program_tests.proofs.instruction_marked.Tie as tie
+
+returns : tie.Need-returns
+unfolding instruction-marked-as
+returns c = cc
+
+pub instruction-marked-spec : {M : Type 1} → statement M
+instruction-marked-spec =
+    tie.close
+    (tie.spec
+    (λ c κs. search needs) (λ c κs. search needs) (λ c κs. search needs) returns)

@@ -1,0 +1,13 @@
+use Rattle.table_updates.specs.Updates.{set-path-name}
+use borrow.Author.Needs.{needs}
+use Rattle.table_updates.proofs.set_path_name.Statement.{statement}
+use Rattle.table_updates.proofs.set_path_name.Tie as tie
+
+returns : tie.Need-returns
+unfolding set-path-name
+returns c = cc
+
+pub set-path-name-spec : {M : Type 1} → statement M
+set-path-name-spec =
+    tie.close (tie.spec
+    (λ c κs. search needs) (λ c. search needs) (λ c κs. search needs) (λ c. search needs) returns)

@@ -1,0 +1,12 @@
+use Rattle.table_updates.specs.Updates.{set-path-names}
+use borrow.Author.Needs.{needs}
+use Rattle.table_updates.proofs.set_path_names.Statement.{statement}
+use Rattle.table_updates.proofs.set_path_names.Tie as tie
+
+returns : tie.Need-returns
+unfolding set-path-names
+returns c = cc
+
+pub set-path-names-spec : {M : Type 1} → statement M
+set-path-names-spec = tie.close (tie.spec
+    (λ c κs. search needs) (λ c. search needs) returns)

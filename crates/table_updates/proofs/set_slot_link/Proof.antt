@@ -1,0 +1,15 @@
+use Rattle.table_updates.specs.Updates.{set-slot-link}
+use borrow.Author.Needs.{needs}
+use Rattle.table_updates.proofs.set_slot_link.Statement.{statement}
+use Rattle.table_updates.proofs.set_slot_link.Tie as tie
+
+returns : tie.Need-returns
+unfolding set-slot-link
+returns c = cc
+
+pub set-slot-link-spec : {M : Type 1} → statement M
+set-slot-link-spec =
+    tie.close
+    (tie.spec
+    (λ c κs. search needs) (λ c. search needs) (λ c. search needs) (λ c κs. search needs) (λ c. search needs)
+    returns)

@@ -1,0 +1,12 @@
+use Rattle.tables.specs.Fields.{instruction-after}
+use borrow.Author.Needs.{needs}
+use Rattle.tables.proofs.instruction_after.Statement.{statement}
+use Rattle.tables.proofs.instruction_after.Tie as tie
+
+returns : tie.Need-returns
+unfolding instruction-after
+returns c = cc
+
+pub instruction-after-spec : {M : Type 1} → statement M
+instruction-after-spec = tie.close (tie.spec
+    (λ c κs. search needs) (λ c κs. search needs) returns)

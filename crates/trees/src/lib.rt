@@ -1,0 +1,1 @@
+// What program words hold as trees: definitions and laws only.
