@@ -1,4 +1,4 @@
--- Document 01, Collect: "reports frames and made texts reached from Σ and Π; afterwards exactly these are in use"; and what stays as it was. Assumes nothing.
+-- Document 01, the call collect: its totals, what is in use afterwards, and what stays as it was. Assumes nothing.
 use Prim.Native.Nat.{ℕ}
 use mathlib.Core.Path.{_≡_}
 use mathlib.Core.Logic.{_↔_}

@@ -1,0 +1,31 @@
+// The number that the next new frame and the next new made text take: the lowest that is not in use. How many are in use, the crate heap counts.
+ghost use mathlib.Core.Path.{_≡_};
+ghost use Rattle.allocation.specs.Allocation.{next-frame, next-text};
+
+// The lowest frame number not in use, 256 where all are.
+pub fn lowest_frame(h: &[u32]) -> u32
+    ensures { λ r. ⌜ r ≡ next-frame (now (h .entry)) ⌝ }
+{
+    let mut f = 0u32;
+    while f < 256 {
+        if !heap::frame_used(h, f) {
+            return f;
+        }
+        f += 1;
+    }
+    256
+}
+
+// The lowest made text number not in use, 256 where all are.
+pub fn lowest_text(h: &[u32]) -> u32
+    ensures { λ r. ⌜ r ≡ next-text (now (h .entry)) ⌝ }
+{
+    let mut k = 0u32;
+    while k < 256 {
+        if !heap::text_used(h, k) {
+            return k;
+        }
+        k += 1;
+    }
+    256
+}

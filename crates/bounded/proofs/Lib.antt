@@ -1,0 +1,12 @@
+pub mod Lists
+pub mod Views
+pub mod Simulates
+pub mod Operations
+pub mod Validity
+pub mod Evaluate
+pub mod Collect
+pub mod UnboundedRuns
+pub mod Step
+pub mod Runs
+pub mod Alike
+pub mod Theorems

@@ -1,0 +1,35 @@
+-- Document 01, the table, numbers 1 to 12, in the steps in which they are decided. Assumes nothing.
+use mathlib.Core.Path.{_≡_}
+use mathlib.Core.Bool.{_&&_}
+use mathlib.Core.List.{List}
+use mathlib.Core.Option.{some}
+use Prim.Native.Nat.{ℕ, _≤_}
+use lib.Dec.{leb, ltb}
+use Rattle.framed.specs.Common.{if_then_else_, between}
+use Rattle.framed.specs.Bytes.{class}
+use Rattle.framed.specs.Tokens.{Token, tokens}
+use Rattle.framed.specs.Symbols.{symbols, name-table}
+use Rattle.framed.specs.Tree.{Written, Slots}
+use Rattle.framed.specs.Parse.{parse}
+use Rattle.framed.specs.Meaning.{Lengths, right-lengths, meaning-refusal}
+use Rattle.framed.specs.Answers.{load-number}
+use Rattle.framed.specs.declared.LoadAnswer.{LoadAnswer}
+
+abbrev pub lengths : ℕ → ℕ → ℕ → ℕ → Lengths
+lengths program heap literal text = record { program = program; heap = heap; literal = literal; text = text }
+
+-- 1
+unfoldable pub lengths-refusal : Lengths → ℕ
+lengths-refusal m = if right-lengths m then 0 else 1
+
+-- 2 and 3, for a source of n bytes
+unfoldable pub limits-refusal : ℕ → ℕ → ℕ → ℕ
+limits-refusal n F T = if between 3 256 F && leb T 256 then (if ltb 16384 n then 3 else 0) else 2
+
+-- 7 to 12, where the source is one frame
+pub record Means (s : List ℕ) (F r : ℕ) : Type 0 where
+  pub is : (ts : List Token) (ss : Slots Written) → tokens class s ≡ some ts → parse (symbols ts) ≡ some ss → r ≡ meaning-refusal (name-table ts) ss F
+
+-- an answer has the number, where there is such an answer
+pub record Numbered (n : ℕ) (r : LoadAnswer) : Type 0 where
+  pub is : n ≤ 12 → load-number r ≡ n

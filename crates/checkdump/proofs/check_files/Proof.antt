@@ -1,0 +1,48 @@
+use Prim.Native.Nat.{_-_}
+use lib.ListN.{length}
+use native.Mathlib.Omega.{arith}
+use Rattle.checkdump.specs.Lines.{Begins}
+use borrow.Author.Needs.{needs}
+use Rattle.checkdump.proofs.check_files.Statement.{statement}
+use Rattle.checkdump.proofs.check_files.Tie as tie
+
+abbrev Inv-loop : tie.InvT-loop
+Inv-loop index at₀ at = Unit {0}
+
+abbrev μ-loop : tie.MeasureT-loop
+μ-loop index at₀ at = length index - at
+
+loop-holds : tie.Need-loop-holds Inv-loop μ-loop
+loop-holds c = tt
+
+line-end-requires : tie.Need-line-end-requires Inv-loop μ-loop
+line-end-requires c κs = record { inside = omega arith }
+
+sub-check-file : tie.Need-sub-check-file Inv-loop μ-loop
+sub-check-file c = omega arith
+
+part-check-file-start : tie.Need-part-check-file-start Inv-loop μ-loop
+part-check-file-start c = omega arith
+
+part-check-file-end : tie.Need-part-check-file-end Inv-loop μ-loop
+part-check-file-end c = omega arith
+
+returns : tie.Need-returns Inv-loop μ-loop
+returns c = tt
+
+add-at : tie.Need-add-at Inv-loop μ-loop
+add-at c = omega arith
+
+loop-less : tie.Need-loop-less Inv-loop μ-loop
+loop-less c = omega arith
+
+loop-again : tie.Need-loop-again Inv-loop μ-loop
+loop-again c = tt
+
+returns-2 : tie.Need-returns-2 Inv-loop μ-loop
+returns-2 c = tt
+
+pub check-files-spec : {M : Type 1} → statement M
+check-files-spec =
+    tie.close
+    (tie.spec Inv-loop μ-loop loop-holds line-end-requires sub-check-file part-check-file-start part-check-file-end (λ c κs. search needs) returns add-at loop-less loop-again returns-2)

@@ -1,0 +1,367 @@
+// The grammar: functions over a source and a position that call each other in a cycle; the unread source length falls.
+ghost use mathlib.Core.Path.{_≡_};
+ghost use Rattle.framed.specs.Parse.{a-base, a-path, an-expression, slots, an-instruction, instructions, names, further-ups};
+ghost use Rattle.grammar.specs.Runs.{Meets, MeetsAll, Reads, ReadsOn, Passes, Expects, KindAt, KindsOk, OneFrame};
+ghost use Rattle.grammar.specs.Readers as R;
+use token::TokenRead;
+
+// What reading finds: the next position, or nothing.
+pub enum Found {
+    Done(usize),
+    Refused,
+}
+
+// One token whose kind is lo to hi.
+pub fn expect(s: &[u8], at: usize, lo: u32, hi: u32) -> Found
+    requires { ⌜ KindsOk lo hi ⌝ }
+    ensures { λ r. ⌜ Expects (now (s .entry)) lo hi at r ⌝ }
+{
+    let t = token::token_at(s, at);
+    let TokenRead::Token(k, a, p, w) = t else {
+        return Found::Refused;
+    };
+    if k < lo {
+        return Found::Refused;
+    }
+    if hi < k {
+        return Found::Refused;
+    }
+    Found::Done(p)
+}
+
+// The kind of the token, 29 where there is none.
+pub fn kind_at(s: &[u8], at: usize) -> u32
+    ensures { λ r. ⌜ KindAt (now (s .entry)) at r ⌝ }
+{
+    let t = token::token_at(s, at);
+    let TokenRead::Token(k, a, p, w) = t else {
+        return 29;
+    };
+    k
+}
+
+fn dot_name(s: &[u8], at: usize) -> Found
+    ensures { λ r. ⌜ ReadsOn R.dot-name (now (s .entry)) at r ⌝ }
+{
+    let x = expect(s, at, 7, 7);
+    let Found::Done(p) = x else {
+        return Found::Refused;
+    };
+    expect(s, p, 25, 25)
+}
+
+fn dot_up(s: &[u8], at: usize) -> Found
+    ensures { λ r. ⌜ ReadsOn R.dot-up (now (s .entry)) at r ⌝ }
+{
+    let x = expect(s, at, 7, 7);
+    let Found::Done(p) = x else {
+        return Found::Refused;
+    };
+    expect(s, p, 8, 8)
+}
+
+// Any number of dot and name: the position after them.
+fn names(s: &[u8], at: usize) -> usize
+    ensures { λ r. ⌜ Passes names (now (s .entry)) at r ⌝ }
+{
+    let mut i = at;
+    while i < s.len() {
+        let x = dot_name(s, i);
+        let Found::Done(p) = x else {
+            return i;
+        };
+        i = p;
+    }
+    i
+}
+
+// Further `^`, each after a dot.
+fn ups(s: &[u8], at: usize) -> usize
+    ensures { λ r. ⌜ Passes R.more-ups (now (s .entry)) at r ⌝ }
+{
+    let mut i = at;
+    while i < s.len() {
+        let x = dot_up(s, i);
+        let Found::Done(p) = x else {
+            return i;
+        };
+        i = p;
+    }
+    i
+}
+
+fn self_path(s: &[u8], at: usize) -> Found
+    ensures { λ r. ⌜ Reads R.self-path (now (s .entry)) at r ⌝ }
+{
+    let x = expect(s, at, 1, 1);
+    let Found::Done(p) = x else {
+        return Found::Refused;
+    };
+    let q = names(s, p);
+    Found::Done(q)
+}
+
+fn up_path(s: &[u8], at: usize) -> Found
+    ensures { λ r. ⌜ Reads R.up-path (now (s .entry)) at r ⌝ }
+{
+    let x = expect(s, at, 8, 8);
+    let Found::Done(p) = x else {
+        return Found::Refused;
+    };
+    let q = ups(s, p);
+    let u = names(s, q);
+    Found::Done(u)
+}
+
+// A path.
+fn path(s: &[u8], at: usize) -> Found
+    ensures { λ r. ⌜ Reads a-path (now (s .entry)) at r ⌝ }
+{
+    let k = kind_at(s, at);
+    if k == 1 {
+        return self_path(s, at);
+    }
+    up_path(s, at)
+}
+
+// `code` `{` instructions `}`
+fn block(s: &[u8], at: usize) -> Found
+    ensures { λ r. ⌜ Meets R.block 0 (now (s .entry)) at r ⌝ }
+{
+    let x = expect(s, at, 28, 28);
+    let Found::Done(p) = x else {
+        return Found::Refused;
+    };
+    let y = expect(s, p, 14, 14);
+    let Found::Done(q) = y else {
+        return Found::Refused;
+    };
+    let z = instructions(s, q);
+    let Found::Done(u) = z else {
+        return Found::Refused;
+    };
+    expect(s, u, 15, 15)
+}
+
+// Integer, string, path or code.
+fn base(s: &[u8], at: usize) -> Found
+    ensures { λ r. ⌜ Meets a-base 1 (now (s .entry)) at r ⌝ }
+{
+    let k = kind_at(s, at);
+    if k == 28 {
+        return block(s, at);
+    }
+    if k < 26 {
+        return path(s, at);
+    }
+    expect(s, at, 26, 27)
+}
+
+// `!` base
+fn negation(s: &[u8], at: usize) -> Found
+    ensures { λ r. ⌜ Meets R.negation 0 (now (s .entry)) at r ⌝ }
+{
+    let x = expect(s, at, 9, 9);
+    let Found::Done(p) = x else {
+        return Found::Refused;
+    };
+    base(s, p)
+}
+
+// Operator and base, or nothing.
+fn operation(s: &[u8], at: usize) -> Found
+    ensures { λ r. ⌜ MeetsAll R.operation 0 (now (s .entry)) at r ⌝ }
+{
+    let x = expect(s, at, 16, 24);
+    let Found::Done(p) = x else {
+        return Found::Done(at);
+    };
+    let y = base(s, p);
+    let Found::Done(q) = y else {
+        return Found::Done(at);
+    };
+    Found::Done(q)
+}
+
+// A base, or base operator base.
+fn binary(s: &[u8], at: usize) -> Found
+    ensures { λ r. ⌜ Meets R.binary 2 (now (s .entry)) at r ⌝ }
+{
+    let x = base(s, at);
+    let Found::Done(p) = x else {
+        return Found::Refused;
+    };
+    operation(s, p)
+}
+
+// `frame` `:` `[` slots `]`
+fn frame(s: &[u8], at: usize) -> Found
+    ensures { λ r. ⌜ Meets R.frame 0 (now (s .entry)) at r ⌝ }
+{
+    let x = expect(s, at, 0, 0);
+    let Found::Done(p) = x else {
+        return Found::Refused;
+    };
+    let y = expect(s, p, 5, 5);
+    let Found::Done(q) = y else {
+        return Found::Refused;
+    };
+    let z = expect(s, q, 12, 12);
+    let Found::Done(u) = z else {
+        return Found::Refused;
+    };
+    let w = slots(s, u);
+    let Found::Done(v) = w else {
+        return Found::Refused;
+    };
+    expect(s, v, 13, 13)
+}
+
+// An expression.
+fn expression(s: &[u8], at: usize) -> Found
+    ensures { λ r. ⌜ Meets an-expression 3 (now (s .entry)) at r ⌝ }
+{
+    let k = kind_at(s, at);
+    if k == 0 {
+        return frame(s, at);
+    }
+    if k == 9 {
+        return negation(s, at);
+    }
+    binary(s, at)
+}
+
+// Slots, parted by commas.
+fn slots(s: &[u8], at: usize) -> Found
+    ensures { λ r. ⌜ Meets slots 0 (now (s .entry)) at r ⌝ }
+{
+    let mut i = at;
+    while i < s.len() {
+        let x = expect(s, i, 25, 25);
+        let Found::Done(p) = x else {
+            return Found::Done(i);
+        };
+        let y = expect(s, p, 6, 6);
+        let Found::Done(q) = y else {
+            return Found::Done(i);
+        };
+        let z = expression(s, q);
+        let Found::Done(u) = z else {
+            return Found::Done(i);
+        };
+        let w = expect(s, u, 11, 11);
+        let Found::Done(v) = w else {
+            return Found::Done(u);
+        };
+        i = v;
+    }
+    Found::Done(i)
+}
+
+// `show` base
+fn showing(s: &[u8], at: usize) -> Found
+    ensures { λ r. ⌜ Meets R.showing 0 (now (s .entry)) at r ⌝ }
+{
+    let x = expect(s, at, 2, 2);
+    let Found::Done(p) = x else {
+        return Found::Refused;
+    };
+    base(s, p)
+}
+
+// `jump` base base
+fn jumping(s: &[u8], at: usize) -> Found
+    ensures { λ r. ⌜ Meets R.jumping 0 (now (s .entry)) at r ⌝ }
+{
+    let x = expect(s, at, 3, 3);
+    let Found::Done(p) = x else {
+        return Found::Refused;
+    };
+    let y = base(s, p);
+    let Found::Done(q) = y else {
+        return Found::Refused;
+    };
+    base(s, q)
+}
+
+// `ifeq` base base base
+fn branching(s: &[u8], at: usize) -> Found
+    ensures { λ r. ⌜ Meets R.branching 0 (now (s .entry)) at r ⌝ }
+{
+    let x = expect(s, at, 4, 4);
+    let Found::Done(p) = x else {
+        return Found::Refused;
+    };
+    let y = base(s, p);
+    let Found::Done(q) = y else {
+        return Found::Refused;
+    };
+    let z = base(s, q);
+    let Found::Done(u) = z else {
+        return Found::Refused;
+    };
+    base(s, u)
+}
+
+// path `:=` expression
+fn assigning(s: &[u8], at: usize) -> Found
+    ensures { λ r. ⌜ Meets R.assigning 0 (now (s .entry)) at r ⌝ }
+{
+    let x = path(s, at);
+    let Found::Done(p) = x else {
+        return Found::Refused;
+    };
+    let y = expect(s, p, 6, 6);
+    let Found::Done(q) = y else {
+        return Found::Refused;
+    };
+    expression(s, q)
+}
+
+// An instruction.
+fn instruction(s: &[u8], at: usize) -> Found
+    ensures { λ r. ⌜ Meets an-instruction 1 (now (s .entry)) at r ⌝ }
+{
+    let k = kind_at(s, at);
+    if k == 2 {
+        return showing(s, at);
+    }
+    if k == 3 {
+        return jumping(s, at);
+    }
+    if k == 4 {
+        return branching(s, at);
+    }
+    assigning(s, at)
+}
+
+// Instructions, each closed by `;`.
+fn instructions(s: &[u8], at: usize) -> Found
+    ensures { λ r. ⌜ Meets instructions 2 (now (s .entry)) at r ⌝ }
+{
+    let mut i = at;
+    while i < s.len() {
+        let x = instruction(s, i);
+        let Found::Done(p) = x else {
+            return Found::Done(i);
+        };
+        let y = expect(s, p, 10, 10);
+        let Found::Done(q) = y else {
+            return Found::Done(i);
+        };
+        i = q;
+    }
+    Found::Done(i)
+}
+
+// The whole source is one frame.
+pub fn one_frame(s: &[u8]) -> bool
+    ensures { λ r. ⌜ OneFrame (now (s .entry)) r ⌝ }
+{
+    let x = frame(s, 0);
+    let Found::Done(p) = x else {
+        return false;
+    };
+    let k = kind_at(s, p);
+    k == 29
+}

@@ -1,0 +1,10 @@
+use Rattle.limits.proofs.Laws.{far-is}
+use borrow.Author.Needs.{needs}
+use Rattle.limits.proofs.far_up.Statement.{statement}
+use Rattle.limits.proofs.far_up.Tie as tie
+
+returns : tie.Need-returns
+returns c = search far-is
+
+pub far-up-spec : {M : Type 1} → statement M
+far-up-spec = tie.close (tie.spec (λ c κs. search needs) returns)

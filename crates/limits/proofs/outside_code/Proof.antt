@@ -1,0 +1,10 @@
+use Rattle.limits.proofs.Laws.{misplaced-is}
+use borrow.Author.Needs.{needs}
+use Rattle.limits.proofs.outside_code.Statement.{statement}
+use Rattle.limits.proofs.outside_code.Tie as tie
+
+returns : tie.Need-returns
+returns c = search misplaced-is
+
+pub outside-code-spec : {M : Type 1} → statement M
+outside-code-spec = tie.close (tie.spec (λ c κs. search needs) returns)

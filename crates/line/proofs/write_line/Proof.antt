@@ -1,0 +1,20 @@
+use Rattle.line.proofs.Laws.{line-past, line-full, line-written}
+use borrow.Author.Needs.{needs}
+use Rattle.line.proofs.write_line.Statement.{statement}
+use Rattle.line.proofs.write_line.Tie as tie
+
+returns : tie.Need-returns
+returns c = search line-past
+
+returns-2 : tie.Need-returns-2
+returns-2 c = search line-full
+
+returns-3 : tie.Need-returns-3
+returns-3 c = search line-written
+
+pub write-line-spec : {M : Type 1} → statement M
+write-line-spec =
+    tie.close
+    (tie.spec
+    (λ c κs. search needs) (λ c κs. search needs) (λ c κs. search needs) (λ c. search needs) returns (λ c. search needs)
+    returns-2 (λ c. search needs) (λ c κs. search needs) (λ c. search needs) returns-3)

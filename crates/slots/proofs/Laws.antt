@@ -1,0 +1,260 @@
+-- Laws of the slots of a frame, one for each way through each function, and of the loops over them. Assumes nothing.
+use mathlib.Core.Path.{_≡_, refl, sym, ap, _∙_}
+use mathlib.Core.Bool.{Bool, true, false, _&&_, _||_, false≢true}
+use mathlib.Core.List.{List, [], _∷_, _++_}
+use mathlib.Core.Option.{some}
+use Prim.Native.Nat.{ℕ, zero, suc, _+_, _-_, _<_, _≤_}
+use native.Mathlib.Omega.{arith}
+use lib.Dec.{eqb, ltb}
+use lib.ListN.{length}
+use borrow.Author.Tests.{eq-eqb, ne-eqb, lt-ltb, le-ltb, eqb-true, eqb-false, ltb-true, ltb-false}
+use Rattle.framed.specs.Common.{if_then_else_, any, same}
+use Rattle.framed.specs.Bytes.{class}
+use Rattle.framed.specs.Tokens.{Token, tokens}
+use Rattle.framed.specs.Symbols.{symbols}
+use Rattle.framed.specs.Tree.{Written, Slots}
+use Rattle.framed.specs.Meaning.{bad-frame, pieces}
+use Rattle.framed.proofs.ParseExact.{parse-sound}
+use Rattle.source.specs.Positions.{rest, part}
+use Rattle.words.specs.Words.{set-word}
+use Rattle.words.proofs.Laws.{set-size}
+use Rattle.token.specs.Reading.{token-of, token-kind, TokenAt, Spot}
+use Rattle.token.specs.declared.TokenRead.{TokenRead}
+use Rattle.token.proofs.KindNumbers.{kind-is}
+use Rattle.token.proofs.Answers.{spot-of}
+use Rattle.scan.specs.Scan.{depth-after, NotHuge}
+use Rattle.sweep.specs.Decides.{Decides}
+use Rattle.sweep.proofs.Loop.{Going, Gives, go-start, go-end, go-none, go-done, go-again, go-early}
+use Rattle.names.specs.Kept.{table-of}
+use Rattle.names.proofs.Laws.{table-length, table-more}
+use Rattle.slots.specs.Own.{closes, names-slot, Own, own, own-slots, own-names, repeats, bytes-of, bad-slots, bad-frames, Added, BadSlots, OpensBad, bad-tree}
+use Rattle.slots.proofs.Bad.{tree-bad}
+
+-- ---- One token
+
+module _ (d k : ℕ) where
+  pub closes-square : k ≡ 13 → eqb d 0 ≡ closes d k
+  unfolding closes
+  closes-square e = rw e
+
+  pub closes-curly : (k ≡ 13 → ⊥) → k ≡ 15 → eqb d 0 ≡ closes d k
+  unfolding closes
+  closes-curly n e = rw e
+
+  pub closes-not : (k ≡ 13 → ⊥) → (k ≡ 15 → ⊥) → false ≡ closes d k
+  unfolding closes
+  closes-not n m = rw (ne-eqb k 13 n, ne-eqb k 15 m)
+
+module _ (d l k : ℕ) where
+  pub slot-other : (k ≡ 25 → ⊥) → false ≡ names-slot d l k
+  unfolding names-slot
+  slot-other n = rw (ne-eqb k 25 n)
+
+  pub slot-path : k ≡ 25 → l ≡ 7 → false ≡ names-slot d l k
+  unfolding names-slot
+  slot-path e f = rw (e, f)
+
+  pub slot-here : k ≡ 25 → (l ≡ 7 → ⊥) → eqb d 0 ≡ names-slot d l k
+  unfolding names-slot
+  slot-here e n = rw (e, ne-eqb l 7 n)
+
+pub slot-name : (d l k : ℕ) → names-slot d l k ≡ true → k ≡ 25
+slot-name d l k h = go (eqb k 25) refl
+  where
+    go : (t : Bool) → eqb k 25 ≡ t → k ≡ 25
+    go true x = eqb-true k 25 x
+    go false x = absurd (false≢true (slot-other d l k (eqb-false k 25 x) ∙ h))
+
+pub depth-small : (n k : ℕ) → depth-after n k ≤ n + 1
+unfolding depth-after
+depth-small n k = go (eqb k 12) (eqb k 14) (eqb k 13) (eqb k 15)
+  where
+    go : (t u v w : Bool) → (if t then n + 1 else if u then n + 1 else if v then n - 1 else if w then n - 1 else n) ≤ n + 1
+    go true u v w = omega arith
+    go false true v w = omega arith
+    go false false true w = omega arith
+    go false false false true = omega arith
+    go false false false false = omega arith
+
+module _ (s b e : List ℕ) (n a p : ℕ) (slot : Bool) where
+  pub repeated-slot : slot ≡ true → (r : Bool) → r ≡ any (same (part s a p)) (table-of s b e n) → r ≡ (slot && any (same (part s a p)) (table-of s b e n))
+  repeated-slot t r h = rw t h
+
+  pub repeated-not : slot ≡ false → false ≡ (slot && any (same (part s a p)) (table-of s b e n))
+  repeated-not t = rw t
+
+  pub added-slot : slot ≡ true → (b' e' : List ℕ) → b' ≡ set-word b n a → e' ≡ set-word e n p → Added b e n slot a p b' e' (n + 1)
+  added-slot t b' e' eb ee = record { begins-is = rw t eb; ends-is = rw t ee; count-is = rw t }
+
+  pub added-not : slot ≡ false → Added b e n slot a p b e n
+  added-not t = record { begins-is = rw t; ends-is = rw t; count-is = rw t }
+
+pub name-is : (s : List ℕ) (k a p w : ℕ) → k ≡ 25 → bytes-of (token-of s k a p w) ≡ part s a p
+unfolding token-of bytes-of
+name-is s k a p w e = rw e
+
+-- the slots from a token on
+
+module _ (s : List ℕ) (k a p w : ℕ) (known : k < 29) (before : List (List ℕ)) (d l : ℕ) (us : List Token) where
+  step-closes : closes d k ≡ true → bad-slots before d l (token-of s k a p w ∷ us) ≡ false
+  unfolding bad-slots own-slots own-names repeats
+  step-closes e = rw (kind-is s a p w k known, e)
+
+  module _ (c : closes d k ≡ false) where
+    step-other : names-slot d l k ≡ false → bad-slots before d l (token-of s k a p w ∷ us) ≡ bad-slots before (depth-after d k) k us
+    unfolding bad-slots own-slots
+    step-other e = rw (kind-is s a p w k known, c, e)
+
+    step-slot : names-slot d l k ≡ true → bad-slots before d l (token-of s k a p w ∷ us)
+        ≡ (any (same (part s a p)) before || (ltb 15 (length before) || bad-slots (before ++ (part s a p ∷ [])) (depth-after d k) k us))
+    unfolding bad-slots own-slots own-names repeats
+    step-slot e = rw (kind-is s a p w k known, c, e, name-is s k a p w (slot-name d l k e))
+
+-- ---- The loop over a frame
+
+pub record Collecting (s : List ℕ) (from : ℕ) (b e : List ℕ) (n d l at : ℕ) : Type 0 where
+  pub begins-size : length b ≡ 17
+  pub ends-size : length e ≡ 17
+  pub few : n ≤ 16
+  pub shallow : d ≤ at
+  pub going : Going (bad-slots [] 0 0) s from (bad-slots (table-of s b e n) d l) at
+
+pub collect-start : (s : List ℕ) (from : ℕ) (b e : List ℕ) → length b ≡ 17 → length e ≡ 17 → Collecting s from b e 0 0 0 from
+unfolding table-of
+collect-start s from b e hb he = record { begins-size = hb; ends-size = he; few = omega arith; shallow = omega arith; going = go-start _ s from }
+
+ended : (s : List ℕ) (from : ℕ) (r : Bool) → Gives (bad-slots [] 0 0) s from r → BadSlots s from r
+ended s from r g = record { is = λ ts e. sym (g .gives ts e) }
+
+none-left : (before : List (List ℕ)) (d l : ℕ) → bad-slots before d l [] ≡ false
+unfolding bad-slots own-slots own-names repeats
+none-left before d l = refl
+
+module _ (s : List ℕ) (from : ℕ) (b e : List ℕ) (n d l at : ℕ) (i : Collecting s from b e n d l at) where
+  no-more : Gives (bad-slots [] 0 0) s from (bad-slots (table-of s b e n) d l []) → BadSlots s from false
+  no-more g = ended s from false (rw (none-left (table-of s b e n) d l) at g)
+
+  pub collect-done : length s ≤ at → BadSlots s from false
+  collect-done h = no-more (go-done _ s from _ at (i .going) h)
+
+  pub collect-few : NotHuge n
+  collect-few = record { small = omega (arith, i .few) }
+
+  pub collect-shallow : at < 18446744073709551615 → NotHuge d
+  collect-shallow h = record { small = omega (arith, i .shallow) }
+
+  module _ (r : TokenRead) (found : TokenAt class s at r) where
+    pub collect-end : r ≡ TokenRead.End → BadSlots s from false
+    collect-end h = no-more (go-end _ s from _ at (i .going) r found h)
+
+    pub collect-none : r ≡ TokenRead.NoToken → BadSlots s from false
+    collect-none h = no-more (go-none _ s from _ at (i .going) r found h _)
+
+    module _ (k a p w : ℕ) (h : r ≡ TokenRead.Token k a p w) (c : Bool) (ec : c ≡ closes d k) where
+      spot : Spot at (length s) k a p
+      spot = spot-of r (found .on) h
+
+      pub collect-closes : c ≡ true → BadSlots s from false
+      collect-closes t = ended s from false (go-early _ s from _ at (i .going) r found k a p w h false
+          (λ us f. step-closes s k a p w (spot .known) (table-of s b e n) d l us (sym ec ∙ t)))
+
+      module _ (open-still : c ≡ false) (slot : Bool) (es : slot ≡ names-slot d l k) (q : Bool) (eq : q ≡ (slot && any (same (part s a p)) (table-of s b e n))) where
+        pub collect-repeated : q ≡ true → BadSlots s from true
+        collect-repeated t = ended s from true (go-early _ s from _ at (i .going) r found k a p w h true (λ us f. found-again us))
+          where
+            parts : (u v : Bool) → true ≡ (u && v) → (u ≡ true) × (v ≡ true)
+            parts true v x = (refl, sym x)
+            parts false v x = absurd (false≢true (sym x))
+
+            found-again : (us : List Token) → bad-slots (table-of s b e n) d l (token-of s k a p w ∷ us) ≡ true
+            found-again us =
+                let x = parts slot (any (same (part s a p)) (table-of s b e n)) (sym t ∙ eq) in
+                step-slot s k a p w (spot .known) (table-of s b e n) d l us (sym ec ∙ open-still) (sym es ∙ x .0) ∙ rw (x .1)
+
+        module _ (t : q ≡ false) (b' e' : List ℕ) (n' : ℕ) (added : Added b e n slot a p b' e' n') where
+          -- what is kept after the token
+          record After : Type 0 where
+            begins-size : length b' ≡ 17
+            ends-size : length e' ≡ 17
+            step : (us : List Token) → bad-slots (table-of s b e n) d l (token-of s k a p w ∷ us) ≡ (ltb 16 n' || bad-slots (table-of s b' e' n') (depth-after d k) k us)
+
+          after : After
+          after = go slot refl (added .begins-is) (added .ends-is) (added .count-is)
+            where
+              new : slot ≡ true → any (same (part s a p)) (table-of s b e n) ≡ false
+              new x = sym (ap (λ (u : Bool). u && any (same (part s a p)) (table-of s b e n)) x) ∙ sym eq ∙ t
+
+              one-more : ltb 15 n ≡ ltb 16 (n + 1)
+              one-more = by (ltb 15 n) refl
+                where
+                  by : (u : Bool) → ltb 15 n ≡ u → u ≡ ltb 16 (n + 1)
+                  by true x = sym (lt-ltb 16 (n + 1) (omega (arith, ltb-true 15 n x)))
+                  by false x = sym (le-ltb 16 (n + 1) (omega (arith, ltb-false 15 n x)))
+
+              go : (u : Bool) → slot ≡ u → b' ≡ (if u then set-word b n a else b) → e' ≡ (if u then set-word e n p else e) → n' ≡ (if u then n + 1 else n) → After
+              go true x eb ee en = record {
+                begins-size = rw eb (set-size b n a ∙ i .begins-size);
+                ends-size = rw ee (set-size e n p ∙ i .ends-size);
+                step = λ us. step-slot s k a p w (spot .known) (table-of s b e n) d l us (sym ec ∙ open-still) (sym es ∙ x)
+                    ∙ rw (new x, table-length s b e n, one-more, eb, ee, en, table-more s b e n a p (omega (arith, i .begins-size, i .few)) (omega (arith, i .ends-size, i .few)));
+              }
+              go false x eb ee en = record {
+                begins-size = rw eb (i .begins-size);
+                ends-size = rw ee (i .ends-size);
+                step = λ us. step-other s k a p w (spot .known) (table-of s b e n) d l us (sym ec ∙ open-still) (sym es ∙ x) ∙ rw (eb, ee, en, le-ltb 16 n (i .few));
+              }
+
+          pub collect-many : 16 < n' → BadSlots s from true
+          collect-many m = ended s from true (go-early _ s from _ at (i .going) r found k a p w h true (λ us f. after .step us ∙ rw (lt-ltb 16 n' m)))
+
+          pub collect-again : n' ≤ 16 → (d' : ℕ) → d' ≡ depth-after d k → Collecting s from b' e' n' d' k p
+          collect-again m d' ed = record {
+            begins-size = after .begins-size;
+            ends-size = after .ends-size;
+            few = m;
+            shallow = omega (arith, depth-small d k, i .shallow, spot .begins, spot .more);
+            going = rw ed (go-again _ s from _ at (i .going) r found k a p w h _ (λ us f. after .step us ∙ rw (le-ltb 16 n' m)));
+          }
+
+-- ---- The loop over all frames
+
+module _ (s : List ℕ) (k end : ℕ) where
+  pub opens-frame : k ≡ 12 → (r : Bool) → BadSlots s end r → OpensBad s k end r
+  opens-frame e r m = record { is = λ ts f. m .is ts f ∙ rw e }
+
+  pub opens-not : (k ≡ 12 → ⊥) → OpensBad s k end false
+  opens-not n = record { is = λ ts f. rw (ne-eqb k 12 n) }
+
+pub record Passing (s : List ℕ) (at : ℕ) : Type 0 where
+  pub going : Going bad-frames s 0 bad-frames at
+
+pub pass-start : (s : List ℕ) → Passing s 0
+pass-start s = record { going = go-start _ s 0 }
+
+decided : (s : List ℕ) (r : Bool) → Gives bad-frames s 0 r → Decides bad-tree s r
+unfolding bad-tree rest
+decided s r g = record { is = λ ts ss e f. sym (g .gives ts e) ∙ tree-bad ts ss (parse-sound (symbols ts) f) }
+
+module _ (s : List ℕ) (at : ℕ) (i : Passing s at) where
+  pub pass-done : length s ≤ at → Decides bad-tree s false
+  unfolding bad-frames
+  pass-done h = decided s false (go-done _ s 0 _ at (i .going) h)
+
+  module _ (r : TokenRead) (found : TokenAt class s at r) where
+    pub pass-end : r ≡ TokenRead.End → Decides bad-tree s false
+    unfolding bad-frames
+    pass-end h = decided s false (go-end _ s 0 _ at (i .going) r found h)
+
+    pub pass-none : r ≡ TokenRead.NoToken → Decides bad-tree s false
+    pass-none h = decided s false (go-none _ s 0 _ at (i .going) r found h false)
+
+    module _ (k a p w : ℕ) (h : r ≡ TokenRead.Token k a p w) (t : Bool) (o : OpensBad s k p t) where
+      step : (us : List Token) → tokens class (rest s p) ≡ some us → bad-frames (token-of s k a p w ∷ us) ≡ (t || bad-frames us)
+      unfolding bad-frames
+      step us f = rw (kind-is s a p w k (spot-of r (found .on) h .known), o .is us f)
+
+      pub pass-bad : t ≡ true → Decides bad-tree s true
+      pass-bad x = decided s true (go-early _ s 0 _ at (i .going) r found k a p w h true (λ us f. step us f ∙ rw x))
+
+      pub pass-again : t ≡ false → Passing s p
+      pass-again x = record { going = go-again _ s 0 _ at (i .going) r found k a p w h _ (λ us f. step us f ∙ rw x) }

@@ -1,0 +1,167 @@
+// The slots of a frame in a source, and number 8: a frame has a name twice or more than 16 slots.
+ghost use mathlib.Core.Path.{_≡_};
+ghost use mathlib.Core.Bool.{_&&_};
+ghost use Rattle.framed.specs.Common.{any, same};
+ghost use Rattle.source.specs.Positions.{part};
+ghost use Rattle.scan.specs.Scan.{depth-after, NotHuge};
+ghost use Rattle.sweep.specs.Decides.{Decides};
+ghost use Rattle.names.specs.Kept.{table-of};
+ghost use Rattle.slots.specs.Own.{closes, names-slot, Added, BadSlots, OpensBad, bad-tree};
+use token::TokenRead;
+
+// A token of kind k closes the frame.
+pub fn closes(depth: usize, k: u32) -> bool
+    ensures { λ r. ⌜ r ≡ closes depth k ⌝ }
+{
+    if k == 13 {
+        return depth == 0;
+    }
+    if k == 15 {
+        return depth == 0;
+    }
+    false
+}
+
+// A token of kind k, after one of kind `last`, is the name of a slot of the frame.
+pub fn names_slot(depth: usize, last: u32, k: u32) -> bool
+    ensures { λ r. ⌜ r ≡ names-slot depth last k ⌝ }
+{
+    if k != 25 {
+        return false;
+    }
+    if last == 7 {
+        return false;
+    }
+    depth == 0
+}
+
+// How many brackets are open in the frame after a token of kind k.
+pub fn depth_after(depth: usize, k: u32) -> usize
+    requires { ⌜ NotHuge depth ⌝ }
+    ensures { λ r. ⌜ r ≡ depth-after depth k ⌝ }
+{
+    if k == 12 {
+        return depth + 1;
+    }
+    if k == 14 {
+        return depth + 1;
+    }
+    if k == 13 {
+        return sweep::one_less(depth);
+    }
+    if k == 15 {
+        return sweep::one_less(depth);
+    }
+    depth
+}
+
+// A slot's name, from a up to p, is one of the n names kept.
+fn repeated(
+    s: &[u8],
+    begins: &[usize],
+    ends: &[usize],
+    n: usize,
+    slot: bool,
+    a: usize,
+    p: usize,
+) -> bool
+    ensures { λ r. ⌜ r ≡ (slot && any (same (part (now (s .entry)) a p)) (table-of (now (s .entry)) (now (begins .entry)) (now (ends .entry)) n)) ⌝ }
+{
+    if slot {
+        return names::known(s, begins, ends, n, a, p);
+    }
+    false
+}
+
+// Keeps a slot's name: how many are kept after it.
+fn add_slot(
+    begins: &mut [usize],
+    ends: &mut [usize],
+    n: usize,
+    slot: bool,
+    a: usize,
+    p: usize,
+) -> usize
+    requires { ⌜ NotHuge n ⌝ }
+    ensures { λ r. ⌜ Added (now (begins .entry)) (now (ends .entry)) n slot a p (now (begins .exit)) (now (ends .exit)) r ⌝ }
+{
+    if slot {
+        names::set_place(begins, n, a);
+        names::set_place(ends, n, p);
+        return n + 1;
+    }
+    n
+}
+
+// The frame whose slots begin there has a name twice or more than 16 slots.
+fn bad_slots(s: &[u8], from: usize) -> bool
+    ensures { λ r. ⌜ BadSlots (now (s .entry)) from r ⌝ }
+{
+    let mut begins = [0usize; 17];
+    let mut ends = [0usize; 17];
+    let mut n = 0;
+    let mut depth = 0;
+    let mut last = 0;
+    let mut at = from;
+    while at < s.len() {
+        match token::token_at(s, at) {
+            TokenRead::End => {
+                return false;
+            }
+            TokenRead::NoToken => {
+                return false;
+            }
+            TokenRead::Token(k, begin, end, _word) => {
+                if closes(depth, k) {
+                    return false;
+                }
+                let slot = names_slot(depth, last, k);
+                if repeated(s, &begins, &ends, n, slot, begin, end) {
+                    return true;
+                }
+                n = add_slot(&mut begins, &mut ends, n, slot, begin, end);
+                if 16 < n {
+                    return true;
+                }
+                depth = depth_after(depth, k);
+                last = k;
+                at = end;
+            }
+        }
+    }
+    false
+}
+
+// A token of kind k opens such a frame.
+fn opens_bad(s: &[u8], k: u32, end: usize) -> bool
+    ensures { λ r. ⌜ OpensBad (now (s .entry)) k end r ⌝ }
+{
+    if k == 12 {
+        return bad_slots(s, end);
+    }
+    false
+}
+
+// Some frame has a name twice or more than 16 slots.
+pub fn bad_frame(s: &[u8]) -> bool
+    ensures { λ r. ⌜ Decides bad-tree (now (s .entry)) r ⌝ }
+{
+    let mut at = 0;
+    while at < s.len() {
+        match token::token_at(s, at) {
+            TokenRead::End => {
+                return false;
+            }
+            TokenRead::NoToken => {
+                return false;
+            }
+            TokenRead::Token(k, _begin, end, _word) => {
+                if opens_bad(s, k, end) {
+                    return true;
+                }
+                at = end;
+            }
+        }
+    }
+    false
+}

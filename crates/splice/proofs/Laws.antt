@@ -1,0 +1,90 @@
+-- What a splice keeps and what it writes, and the loop that writes it. Assumes nothing.
+use Prim.Native.Nat.{ℕ, zero, suc, _+_, _-_, _≤_, _<_}
+use mathlib.Core.Path.{_≡_, refl, _∙_, ap, sym}
+use mathlib.Core.List.{List, [], _∷_, _++_}
+use native.Mathlib.Omega.{arith}
+use native.Mathlib.Numerals.{add-one}
+use lib.ListN.{length, getD, set, take, drop, length-set, drop-of-length-le}
+use lib.Seq.{drop-cons, set-out, getD-set-same, getD-set-other, length-sets, sets-eq}
+use Rattle.splice.specs.Splice.{splice}
+
+-- ---- What callers cite
+
+pub splice-length : (m : List ℕ) (at : ℕ) (bs : List ℕ) → length (splice m at bs) ≡ length m
+unfolding splice
+splice-length m at bs = length-sets m at bs
+
+-- where it fits: what stands before, the bytes, and what stands behind
+pub splice-fits : (m : List ℕ) (at : ℕ) (bs : List ℕ) → at + length bs ≤ length m → splice m at bs ≡ take at m ++ bs ++ drop (at + length bs) m
+unfolding splice
+splice-fits m at bs le = sets-eq bs m at le
+
+pub splice-past : (m : List ℕ) (at : ℕ) (bs : List ℕ) → length m ≤ at → splice m at bs ≡ m
+unfolding splice
+splice-past m at [] le = refl
+splice-past m at (b ∷ bs) le = rw (set-out m at b le) (splice-past m (suc at) bs (omega arith))
+
+-- one part after the other
+pub splice-append : (m : List ℕ) (at : ℕ) (cs bs : List ℕ) → splice m at (cs ++ bs) ≡ splice (splice m at cs) (at + length cs) bs
+unfolding splice
+splice-append m at [] bs = ap (λ (k : ℕ). splice m k bs) (zero-more at)
+  where
+    zero-more : (k : ℕ) → k ≡ k + 0
+    zero-more k = omega arith
+splice-append m at (a ∷ cs) bs = splice-append (set m at a) (suc at) cs bs ∙ ap (λ (k : ℕ). splice (splice (set m at a) (suc at) cs) k bs) (one-more at (length cs))
+  where
+    one-more : (k n : ℕ) → suc k + n ≡ k + suc n
+    one-more k n = omega arith
+
+-- what is read there, and elsewhere
+pub splice-before : (m : List ℕ) (at : ℕ) (bs : List ℕ) (k : ℕ) → k < at → getD (splice m at bs) k 0 ≡ getD m k 0
+unfolding splice
+splice-before m at [] k lt = refl
+splice-before m at (b ∷ bs) k lt = splice-before (set m at b) (suc at) bs k (omega arith) ∙ getD-set-other m at k b 0 (omega arith)
+
+pub splice-behind : (m : List ℕ) (at : ℕ) (bs : List ℕ) (k : ℕ) → at + length bs ≤ k → getD (splice m at bs) k 0 ≡ getD m k 0
+unfolding splice
+splice-behind m at [] k le = refl
+splice-behind m at (b ∷ bs) k le = splice-behind (set m at b) (suc at) bs k (omega arith) ∙ getD-set-other m at k b 0 (omega arith)
+
+pub splice-here : (m : List ℕ) (at : ℕ) (bs : List ℕ) (i : ℕ) → i < length bs → at + i < length m → getD (splice m at bs) (at + i) 0 ≡ getD bs i 0
+unfolding splice
+splice-here m at [] i lt l = absurd (omega arith)
+splice-here m at (b ∷ bs) zero lt l =
+    let e : at + 0 ≡ at = omega arith in
+    rw e (splice-before (set m at b) (suc at) bs at (omega arith) ∙ getD-set-same m at b 0 (omega arith))
+splice-here m at (b ∷ bs) (suc i) lt l =
+    let e : at + suc i ≡ suc at + i = omega arith in
+    let s = length-set m at b in
+    rw e (splice-here (set m at b) (suc at) bs i (omega arith) (omega arith))
+
+-- ---- write: what is left to write from i on gives the whole
+
+pub record Writing (m : List ℕ) (at : ℕ) (s now : List ℕ) (i : ℕ) : Type 0 where
+  pub inside : i ≤ length s
+  pub size : length now ≡ length m
+  pub rest : splice now (at + i) (drop i s) ≡ splice m at s
+
+pub writing-start : (m : List ℕ) (at : ℕ) (s : List ℕ) → Writing m at s m 0
+writing-start m at s = record { inside = omega arith; size = refl; rest = ap (λ (k : ℕ). splice m k s) {x = at + 0} {y = at} (omega arith) }
+
+pub writing-past : (m : List ℕ) (at : ℕ) (s : List ℕ) → length m < at → m ≡ splice m at s
+writing-past m at s lt = sym (splice-past m at s (omega arith))
+
+module _ (m : List ℕ) (at : ℕ) (s now : List ℕ) (i : ℕ) (a : Writing m at s now i) where
+  pub writing-full : length m - at ≤ i → now ≡ splice m at s
+  writing-full le = let z = a .size in sym (splice-past now (at + i) (drop i s) (omega arith)) ∙ a .rest
+
+  pub writing-done : length s ≤ i → now ≡ splice m at s
+  unfolding splice
+  writing-done le = rw (drop-of-length-le s {i = i} le) at (a .rest)
+
+  pub writing-again : i < length s → Writing m at s (set now (at + i) (getD s i 0)) (i + 1)
+  unfolding splice
+  writing-again lt =
+      let q : suc (at + i) ≡ at + (i + 1) = omega arith in
+      record {
+        inside = omega arith;
+        size = length-set now (at + i) (getD s i 0) ∙ a .size;
+        rest = rw (← q, add-one i) (rw (drop-cons s i 0 lt) at (a .rest));
+      }
