@@ -1,0 +1,9 @@
+pub mod Header
+pub mod Form
+pub mod Values
+pub mod Written
+pub mod Texts
+pub mod Put
+pub mod Laws
+pub mod State
+pub mod Updates
