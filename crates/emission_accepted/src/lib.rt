@@ -1,0 +1,1 @@
+// What load keeps of an accepted source: statement in specs/, proofs in proofs/.

@@ -1,0 +1,5 @@
+pub mod Cover
+pub mod Slots
+pub mod Facts
+pub mod Parts
+pub mod Whole

@@ -1,0 +1,1 @@
+// What was emitted is well-formed: statement in specs/, proofs in proofs/.

@@ -1,0 +1,5 @@
+pub mod Marked
+pub mod Fields
+pub mod Held
+pub mod Whole
+pub mod BaseKind

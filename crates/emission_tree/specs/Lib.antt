@@ -1,0 +1,3 @@
+pub mod Standing
+pub mod Entry
+pub mod Whole

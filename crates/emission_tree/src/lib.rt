@@ -1,0 +1,1 @@
+// What emitted program words hold, entry by entry: definitions in specs/, proofs in proofs/.

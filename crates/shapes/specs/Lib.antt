@@ -1,0 +1,4 @@
+pub mod Numbers
+pub mod Shape
+pub mod Accepted
+pub mod Counted
