@@ -4,10 +4,10 @@ use Rattle.formcheck.proofs.write_place.Statement.{statement}
 use Rattle.formcheck.proofs.write_place.Tie as tie
 
 abbrev Inv-loop : tie.InvT-loop
-Inv-loop memory place i₀ t5 i = i ≤ 22
+Inv-loop made memory place i₀ t6 i = i ≤ 22
 
 abbrev μ-loop : tie.MeasureT-loop
-μ-loop memory place i₀ t5 i = 22 - i
+μ-loop made memory place i₀ t6 i = 22 - i
 
 write-memory-requires : tie.Need-write-memory-requires Inv-loop μ-loop
 write-memory-requires c κs = search needs
