@@ -10,6 +10,7 @@ use Rattle.framed.specs.Tokens.{tokens}
 use Rattle.framed.specs.Meaning.{Lengths, refusal, arguments-refusal, source-refusal}
 use Rattle.framed.proofs.Accepted.{suc≢zero, lowest-first, lowest-rest}
 use Rattle.tables.proofs.Bools.{split2}
+use Rattle.trees.proofs.Held.{one-level-held}
 use Rattle.shapes.proofs.Accepted.{accepted-shaped}
 use Rattle.emission_held.proofs.Decodes.{load-decodes}
 use Rattle.emission_form.proofs.Whole.{load-whole}
@@ -37,8 +38,8 @@ in-range m source F T e = arguments m source F T (go (arguments-refusal m source
     go (suc k) e = absurd (suc≢zero e)
 
 pub accepted-kept : AcceptedKept
-accepted-kept levels m source F T q e s =
+accepted-kept m source F T q e s =
     let h = accepted-shaped m source F T q e s in
     let r = in-range m source F T e in
     let w = load-whole q F T h (r .F-least) (r .F-most) (r .T-most) in
-    record { whole = w; decodes = load-decodes q F T h (levels _ _ w) }
+    record { whole = w; decodes = load-decodes q F T h (one-level-held _ _ w) }

@@ -7,7 +7,6 @@ use Prim.Native.Nat.{ℕ}
 use Rattle.framed.specs.Meaning.{Lengths, refusal}
 use Rattle.framed.specs.Program.{Program, program}
 use Rattle.program_form.specs.WellFormed.{WellFormed}
-use Rattle.trees.specs.Held.{OneLevel}
 use Rattle.emission.specs.Emit.{program-words, literal-bytes}
 use Rattle.emission_held.specs.Decodes.{Decodes}
 
@@ -15,8 +14,5 @@ pub record Kept (q : Program) (F T : ℕ) : Type 0 where
   pub whole : WellFormed (program-words q F T) (literal-bytes q)
   pub decodes : Decodes q F T
 
--- where well-formed words are read level by level
 abbrev pub AcceptedKept : Type 0
-AcceptedKept =
-    ((p l : List ℕ) → WellFormed p l → OneLevel p l) → (m : Lengths) (source : List ℕ) (F T : ℕ) (q : Program) →
-    refusal m source F T ≡ 0 → program source ≡ some q → Kept q F T
+AcceptedKept = (m : Lengths) (source : List ℕ) (F T : ℕ) (q : Program) → refusal m source F T ≡ 0 → program source ≡ some q → Kept q F T
