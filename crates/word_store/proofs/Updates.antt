@@ -32,16 +32,16 @@ use Rattle.word_store.proofs.Header.{low-frame-used, low-view, low-next
 
 -- ---- The header after the updaters of frames and texts
 
-abbrev KeepsHeader : List ℕ → List ℕ → Type 0
+abbrev pub KeepsHeader : List ℕ → List ℕ → Type 0
 KeepsHeader h h′ = Same 0 6 h h′
 
-keeps-all : (h : List ℕ) → KeepsHeader h h
+pub keeps-all : (h : List ℕ) → KeepsHeader h h
 keeps-all h = record { agree = λ k lo hi. refl }
 
 keeps-set : {h h′ : List ℕ} → KeepsHeader h h′ → (k x : ℕ) → 6 ≤ k → KeepsHeader h (set-word h′ k x)
 keeps-set s k x le = record { agree = λ j lo hi. word-other _ _ _ _ _ (omega arith) (s .agree j lo hi) }
 
-keeps-claim : (h : List ℕ) → KeepsHeader h (claim-frame h)
+pub keeps-claim : (h : List ℕ) → KeepsHeader h (claim-frame h)
 unfolding claim-frame take-frame
 keeps-claim h = keeps-set (keeps-set (keeps-all h) _ _ (omega arith)) _ _ (omega arith)
 
@@ -58,18 +58,18 @@ module _ {h h′ : List ℕ} (s : KeepsHeader h h′) where
   unfolding free-text
   keeps-free-text k = keeps-set s _ _ (omega arith)
 
-keeps-pick : {h a b : List ℕ} (c : Bool) → KeepsHeader h a → KeepsHeader h b → KeepsHeader h (pick c a b)
+pub keeps-pick : {h a b : List ℕ} (c : Bool) → KeepsHeader h a → KeepsHeader h b → KeepsHeader h (pick c a b)
 keeps-pick true p q = p
 keeps-pick false p q = q
 
 module _ (h : List ℕ) where
-  keeps-add : (f x : ℕ) (v : Value) → KeepsHeader h (add-slot h f x v)
+  pub keeps-add : (f x : ℕ) (v : Value) → KeepsHeader h (add-slot h f x v)
   unfolding add-slot add-slot-at
   keeps-add f x v =
       keeps-pick (leb 16 (slot-count-at h f)) (keeps-all h)
       (keeps-set (keeps-slot (keeps-set (keeps-all h) _ _ (omega arith)) f (slot-count-at h f) v) _ _ (omega arith))
 
-  keeps-put : (f x : ℕ) (v : Value) → KeepsHeader h (put-slot h f x v)
+  pub keeps-put : (f x : ℕ) (v : Value) → KeepsHeader h (put-slot h f x v)
   unfolding put-slot
   keeps-put f x v = go (slot-from (slots-held h f) x 0)
     where
@@ -77,7 +77,7 @@ module _ (h : List ℕ) where
       go (SlotFound.At i) = keeps-slot (keeps-all h) f i v
       go SlotFound.Missing = keeps-add f x v
 
-  keeps-text : (k n : ℕ) → KeepsHeader h (take-text h k n)
+  pub keeps-text : (k n : ℕ) → KeepsHeader h (take-text h k n)
   unfolding take-text
   keeps-text k n = keeps-pick (ltb 64 n) (keeps-all h) (keeps-set (keeps-all h) _ _ (omega arith))
 
@@ -87,7 +87,7 @@ module _ (h : List ℕ) where
   keeps-sweep free off p zero i h′ s = s
   keeps-sweep free off p (suc n) i h′ s = keeps-sweep free off p n (i + 1) _ (keeps-pick (off i) (p h′ i s) s)
 
-  keeps-collect : KeepsHeader h (collect-heap h .words)
+  pub keeps-collect : KeepsHeader h (collect-heap h .words)
   unfolding collect-heap swept sweep-texts sweep-frames
   keeps-collect =
       keeps-sweep free-text (text-unmarked (mark-all h)) (λ h′ i s. keeps-free-text s i) 256 0 _

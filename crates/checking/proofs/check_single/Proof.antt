@@ -1,0 +1,44 @@
+use Rattle.checking.proofs.Laws.{single-operand, single-operation}
+use borrow.Author.Needs.{needs}
+use Rattle.checking.proofs.check_single.Statement.{statement}
+use Rattle.checking.proofs.check_single.Tie as tie
+use Rattle.checking.proofs.check_single.Reads as reads
+use Rattle.checking.proofs.check_single.Lts as lts
+use Rattle.checking.proofs.base_in.Reads as base-in-reads
+use Rattle.checking.proofs.check_operation.Reads as check-operation-reads
+use Rattle.operand_checks.proofs.check_operand.Reads as check-operand-reads
+
+-- src/lib.rt:44:34
+enum-known-e : tie.Need-enum-known-e
+enum-known-e c = search needs
+
+-- src/lib.rt:45:52
+base-in-requires : tie.Need-base-in-requires
+base-in-requires c κs = search needs
+
+-- src/lib.rt:45:9
+check-operand-requires : tie.Need-check-operand-requires
+check-operand-requires c κs = search needs
+
+-- src/lib.rt:45:9
+returns : tie.Need-returns
+returns c = search single-operand
+
+-- src/lib.rt:47:5
+check-operation-requires : tie.Need-check-operation-requires
+check-operation-requires c κs = search needs
+
+-- src/lib.rt:40:1
+returns-2 : tie.Need-returns-2
+returns-2 c = search single-operation
+
+pub check-single-spec : {M : Type 1} → statement M
+check-single-spec =
+    tie.close
+    (tie.spec
+    enum-known-e
+    base-in-requires
+    check-operand-requires
+    returns
+    check-operation-requires
+    returns-2)

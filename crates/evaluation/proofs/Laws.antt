@@ -1,0 +1,219 @@
+-- What each way through evaluate and fill gives. Assumes nothing.
+use Prim.Native.Nat.{ℕ, zero, suc, _+_, _-_, _*_, _≤_, _<_}
+use mathlib.Core.Path.{_≡_, refl, _∙_, ap, ap₂, sym}
+use mathlib.Core.List.{List, [], _∷_}
+use native.Mathlib.Omega.{arith}
+use native.Mathlib.Decide.{decLe, ℕ-discrete}
+use lib.Dec.{eqb, leb}
+use lib.ListN.{length}
+use types.Run.{OneOf, miss}
+use denote.Enum.Declared.{tagOf}
+use borrow.Author.Tests.{eq-eqb, ne-eqb, le-leb, lt-leb}
+use Rattle.framed.specs.declared.Value.{Value}
+use Rattle.framed.specs.Tree.{Expression, Slots}
+use Rattle.framed.specs.Paths.{Path}
+use Rattle.framed.specs.Machine.{frame-literals, frame-literals-in, join-signs, join-signs-in}
+use Rattle.tables.specs.declared.ExpressionEntry.{ExpressionEntry}
+use Rattle.tables.proofs.ExpressionEntry.{the-type}
+use Rattle.tables.specs.Entries.{expression-at}
+use Rattle.tables.specs.Fields.{expressions, link, slot-name, slot-after}
+use Rattle.program_form.specs.WellFormed.{WellFormed}
+use Rattle.program_form.specs.Sound.{SlotPlace, Sound}
+use Rattle.program_form.proofs.Decides.{sound}
+use Rattle.trees.specs.Held as trees
+use Rattle.trees.specs.Held.{expression-held, slots-held, OneLevel}
+use Rattle.trees.proofs.Held.{one-level-held, frame-held}
+use Rattle.heap.specs.Words.{self-held, program-held, take-frame, add-slot}
+use Rattle.heap.specs.Held.{frames-in-use, texts-in-use}
+use Rattle.heap.specs.Closed.{FrameInUse}
+use Rattle.allocation.specs.Allocation.{next-frame}
+use Rattle.bounded.specs.Bounded.{Produced, evaluate, fill}
+use Rattle.word_store.specs.Store.{Memories, word-store, claim-frame}
+use Rattle.word_store.specs.State.{store-held}
+use Rattle.producing.specs.Producing.{HasRoom, Writable, Leaves, made}
+use Rattle.producing.proofs.Leaves.{leaves-none, leaves-both}
+use Rattle.evaluation.specs.Evaluation.{Claims, strings, CanEvaluate, Flat, Evaluates, CanFill, Fills}
+use Rattle.evaluation.proofs.Fits.{fits-frame}
+use Rattle.evaluation.proofs.Stores.{next-is, claim-store, push-store, self-kept, program-kept, claim-in-use, claim-leaves, push-leaves}
+
+pub claim-done : (h : List ℕ) (f : ℕ) (h′ : List ℕ) → f ≡ next-frame h → h′ ≡ take-frame h f → Claims h f h′
+unfolding claim-frame
+claim-done h f h′ ef eh = record { answer = ef; words = eh ∙ rw ef }
+
+-- ---- The measure: an expression is above its slots, a slot above what follows
+
+-- of the place z of a slot; none at the end
+unfoldable pub slots-left : ℕ → ℕ
+slots-left zero = 0
+slots-left (suc y) = 2 * (1024 - y) + 1
+
+links-up : (x d : ℕ) → x < 1024 → slots-left (link 1024 x d) < 2 * (1024 - x)
+unfolding slots-left link
+links-up x d lt = go (ℕ-discrete d 0) (decLe 1024 (x + d))
+  where
+    go : Dec (d ≡ 0) → Dec (1024 ≤ x + d) → slots-left (link 1024 x d) < 2 * (1024 - x)
+    go (yes e) b = rw (eq-eqb d 0 e) (omega arith)
+    go (no n) (yes b) = rw (ne-eqb d 0 n, le-leb 1024 (x + d) b) (omega arith)
+    go (no n) (no b) = let e : 1 + x + d ≡ suc (x + d) = omega arith in rw (ne-eqb d 0 n, lt-leb 1024 (x + d) (omega arith), e) (omega arith)
+
+-- ---- evaluate
+
+module _ (p l h t : List ℕ) (x : ℕ) (can : CanEvaluate p l h t x) (e : ExpressionEntry) (ee : e ≡ expression-at p x) where
+  x-small : x < 1024
+  x-small = let a = can .there in let b = can .writable .program .entries .limits .expressions-most in omega arith
+
+  pub evaluate-flat : OneOf (0 ∷ 1 ∷ 2 ∷ 3 ∷ 4 ∷ 6 ∷ 7 ∷ 8 ∷ []) (tagOf the-type e) → Flat p l h t x
+  evaluate-flat o = record { can = can; no-frame = λ d q. miss (0 ∷ 1 ∷ 2 ∷ 3 ∷ 4 ∷ 6 ∷ 7 ∷ 8 ∷ []) 5 tt (rw (ee ∙ q) at o) }
+
+  module _ (d : ℕ) (is : e ≡ ExpressionEntry.Frame d) (f : ℕ) (h₁ : List ℕ) (c : Claims h f h₁) (z : ℕ) (ez : z ≡ link 1024 x d) where
+    entry : expression-at p x ≡ ExpressionEntry.Frame d
+    entry = sym ee ∙ is
+
+    tree-is : expression-held p x ≡ Expression.frame (slots-held p z)
+    tree-is = frame-held p l (can .writable .program) x (can .there) d entry ∙ rw (← ez)
+
+    literals-are : frame-literals (expression-held p x) ≡ suc (frame-literals-in (slots-held p z))
+    unfolding frame-literals
+    literals-are = rw tree-is
+
+    signs-are : join-signs (expression-held p x) ≡ join-signs-in (slots-held p z)
+    unfolding join-signs
+    signs-are = rw tree-is
+
+    few : length (frames-in-use h) < 256
+    few = let q = can .room .frames in let a = literals-are in omega arith
+
+    left : Leaves h t 1 0 h₁ t
+    left = rw (c .words) (claim-leaves h t (can .writable .sized) (can .writable .text-size) few)
+
+    pub evaluate-can-fill : CanFill p l h₁ t f z
+    evaluate-can-fill = record {
+      writable = record { program = can .writable .program; sized = left .sized; text-size = can .writable .text-size };
+      place = rw ez (SlotPlace.of-frame x d (can .there) entry);
+      frame = rw (c .words, c .answer) (claim-in-use h t (can .writable .sized) (can .writable .text-size) few);
+      room = record {
+        frames = let q = can .room .frames in let a = literals-are in let b = left .frames in omega arith;
+        texts = let q = can .room .texts in let a = signs-are in let b = left .texts in omega arith;
+      };
+    }
+
+    pub evaluate-falls : (m : ℕ) → 2 * (1024 - x) ≡ m → slots-left z < m
+    evaluate-falls m em = rw ez (let q = links-up x d x-small in omega arith)
+
+    pub evaluate-frame : (h′ t′ : List ℕ) → Fills p l h₁ t f z h′ t′ → Evaluates p l h t x (Value.Frame f) h′ t′
+    unfolding evaluate
+    evaluate-frame h′ t′ k =
+        let v = leaves-both left (k .leaves) in
+        let a = literals-are in
+        let b = signs-are in
+        record {
+          produced = rw tree-is (make (rw (self-kept (left .header), program-kept (left .header)) at (k .stored)));
+          leaves = record { header = v .header; stay = v .stay; sized = v .sized; text-size = v .text-size; frames = let q = v .frames in omega arith; texts = let q = v .texts in omega arith };
+          fits = fits-frame f;
+        }
+      where
+        make : fill word-store (strings p l) (self-held h) (program-held h) f (slots-held p z) (store-held h₁ t) ≡ store-held h′ t′ →
+            evaluate word-store (strings p l) (self-held h) (program-held h) (Expression.frame (slots-held p z)) (store-held h t) ≡ made (Value.Frame f) h′ t′
+        make s =
+            let en : word-store .next-frame (store-held h t) ≡ f = next-is h t ∙ sym (c .answer) in
+            let ec : word-store .claim-frame (store-held h t) ≡ store-held h₁ t = sym (claim-store h t (can .writable .sized .size)) ∙ rw (c .words) in
+            rw (en, ec, s)
+
+-- ---- fill
+
+fill-step : (literals : List (List ℕ)) (Σ Π : Value) (f n : ℕ) (e : Expression Path) (ss : Slots Path) (s : Memories) →
+    fill word-store literals Σ Π f (Slots.slot n e ss) s
+    ≡ fill word-store literals Σ Π f ss (word-store .push (evaluate word-store literals Σ Π e s .store) f n (evaluate word-store literals Σ Π e s .value))
+unfolding fill
+fill-step literals Σ Π f n e ss s = refl
+
+module _ (p l h t : List ℕ) (f z : ℕ) (can : CanFill p l h t f z) where
+  one : OneLevel p l
+  one = one-level-held p l (can .writable .program)
+
+  G : Sound p
+  G = sound p l (can .writable .program)
+
+  pub fill-none : z ≡ 0 → Fills p l h t f z h t
+  unfolding fill
+  fill-none e = record { stored = rw (e, one .no-slots); leaves = leaves-none _ _ (can .writable .sized) (can .writable .text-size) }
+
+  module _ (nz : z ≡ 0 → ⊥) (y : ℕ) (ey : y ≡ z - 1) where
+    z-is : z ≡ suc y
+    z-is = omega arith
+
+    place : SlotPlace p (suc y)
+    place = rw (← z-is) (can .place)
+
+    there : y < expressions p
+    there = G .slot-there y place
+
+    y-small : y < 1024
+    y-small = let a = there in let b = can .writable .program .entries .limits .expressions-most in omega arith
+
+    slots-are : slots-held p z ≡ Slots.slot (slot-name p y) (expression-held p y) (slots-held p (slot-after p y))
+    slots-are = rw z-is (one .slot y place)
+
+    literals-in : frame-literals-in (slots-held p z) ≡ frame-literals (expression-held p y) + frame-literals-in (slots-held p (slot-after p y))
+    unfolding frame-literals-in
+    literals-in = rw slots-are
+
+    signs-in : join-signs-in (slots-held p z) ≡ join-signs (expression-held p y) + join-signs-in (slots-held p (slot-after p y))
+    unfolding join-signs-in
+    signs-in = rw slots-are
+
+    pub fill-can-evaluate : CanEvaluate p l h t y
+    fill-can-evaluate = record {
+      writable = can .writable;
+      there = there;
+      room = record { frames = let q = can .room .frames in let a = literals-in in omega arith; texts = let q = can .room .texts in let a = signs-in in omega arith };
+    }
+
+    pub fill-falls : (m : ℕ) → slots-left z ≡ m → 2 * (1024 - y) < m
+    unfolding slots-left
+    fill-falls m em = let q : 2 * (1024 - y) + 1 ≡ m = rw z-is at em in omega arith
+
+    module _ (v : Value) (h₁ t₁ : List ℕ) (m : Evaluates p l h t y v h₁ t₁) (x : ℕ) (ex : x ≡ slot-name p y) (h₂ : List ℕ) (eh : h₂ ≡ add-slot h₁ f x v) (w : ℕ) (ew : w ≡ slot-after p y) where
+      pushed : Leaves h₁ t₁ 0 0 h₂ t₁
+      pushed = rw eh (push-leaves h₁ t₁ (m .leaves .sized) (m .leaves .text-size) f x v (m .leaves .stay f (can .frame)))
+
+      so-far : Leaves h t (frame-literals (expression-held p y) + 0) (join-signs (expression-held p y) + 0) h₂ t₁
+      so-far = leaves-both (m .leaves) pushed
+
+      pub fill-can-go-on : CanFill p l h₂ t₁ f w
+      fill-can-go-on = rw ew (record {
+        writable = record { program = can .writable .program; sized = so-far .sized; text-size = so-far .text-size };
+        place = SlotPlace.after y place;
+        frame = so-far .stay f (can .frame);
+        room = record {
+          frames = let q = can .room .frames in let a = literals-in in let b = so-far .frames in omega arith;
+          texts = let q = can .room .texts in let a = signs-in in let b = so-far .texts in omega arith;
+        };
+      })
+
+      pub fill-on-falls : (k : ℕ) → slots-left z ≡ k → slots-left w < k
+      unfolding slots-left
+      fill-on-falls k ek = go w ew
+        where
+          go : (w : ℕ) → w ≡ slot-after p y → slots-left w < k
+          go zero e = let q : 2 * (1024 - y) + 1 ≡ k = rw z-is at ek in omega arith
+          go (suc u) e = let q : 2 * (1024 - y) + 1 ≡ k = rw z-is at ek in let a = G .slot-larger y u (sym e) in let b = y-small in omega arith
+
+      pub fill-again : (h₃ t₃ : List ℕ) → Fills p l h₂ t₁ f w h₃ t₃ → Fills p l h t f z h₃ t₃
+      fill-again h₃ t₃ k =
+          let a = literals-in in
+          let b = signs-in in
+          let c = leaves-both so-far (rw ew at (k .leaves)) in
+          record {
+            stored = rw slots-are (go (rw (self-kept (so-far .header), program-kept (so-far .header), ew) at (k .stored)));
+            leaves = record { header = c .header; stay = c .stay; sized = c .sized; text-size = c .text-size; frames = let q = c .frames in omega arith; texts = let q = c .texts in omega arith };
+          }
+        where
+          go : fill word-store (strings p l) (self-held h) (program-held h) f (slots-held p (slot-after p y)) (store-held h₂ t₁) ≡ store-held h₃ t₃ →
+              fill word-store (strings p l) (self-held h) (program-held h) f (Slots.slot (slot-name p y) (expression-held p y) (slots-held p (slot-after p y))) (store-held h t) ≡ store-held h₃ t₃
+          go s =
+              let ep : word-store .push (store-held h₁ t₁) f (slot-name p y) v ≡ store-held h₂ t₁ = sym (push-store h₁ t₁ (m .leaves .sized .size) f (slot-name p y) v) ∙ rw (eh, ex) in
+              fill-step (strings p l) (self-held h) (program-held h) f (slot-name p y) (expression-held p y) (slots-held p (slot-after p y)) (store-held h t)
+              ∙ ap (λ (r : Produced Memories). fill word-store (strings p l) (self-held h) (program-held h) f (slots-held p (slot-after p y)) (word-store .push (r .store) f (slot-name p y) (r .value))) (m .produced)
+              ∙ ap (fill word-store (strings p l) (self-held h) (program-held h) f (slots-held p (slot-after p y))) ep
+              ∙ s

@@ -1,0 +1,4 @@
+pub mod Stores
+pub mod Fits
+pub mod Simple
+pub mod Laws

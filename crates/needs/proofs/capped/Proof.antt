@@ -1,0 +1,35 @@
+use Rattle.needs.proofs.Cap.{capped-large, capped-small}
+use borrow.Author.Needs.{needs}
+use Rattle.needs.proofs.capped.Statement.{statement}
+use Rattle.needs.proofs.capped.Tie as tie
+use Rattle.needs.proofs.capped.Reads as reads
+use Rattle.needs.proofs.capped.Lts as lts
+use Rattle.words.proofs.wide.Reads as wide-reads
+
+-- src/lib.rt:15:15
+wide-requires : tie.Need-wide-requires
+wide-requires c κs = search needs
+
+-- src/lib.rt:15:32
+wide-requires-2 : tie.Need-wide-requires-2
+wide-requires-2 c κs = search needs
+
+-- src/lib.rt:15:15
+add-if1 : tie.Need-add-if1
+add-if1 c = search needs
+
+-- src/lib.rt:16:9
+returns : tie.Need-returns
+returns c = search capped-large
+
+-- src/lib.rt:18:5
+add-result : tie.Need-add-result
+add-result c = search needs
+
+-- src/lib.rt:12:1
+returns-2 : tie.Need-returns-2
+returns-2 c = search capped-small
+
+pub capped-spec : {M : Type 1} → statement M
+capped-spec =
+    tie.close (tie.spec wide-requires wide-requires-2 add-if1 returns add-result returns-2)

@@ -1,0 +1,25 @@
+use Rattle.needs.proofs.Laws.{sign-other, sign-join, sign-none}
+use borrow.Author.Needs.{needs}
+use Rattle.needs.proofs.join_sign.Statement.{statement}
+use Rattle.needs.proofs.join_sign.Tie as tie
+use Rattle.needs.proofs.join_sign.Reads as reads
+use Rattle.needs.proofs.join_sign.Lts as lts
+
+-- src/lib.rt:50:34
+enum-known-e : tie.Need-enum-known-e
+enum-known-e c = search needs
+
+-- src/lib.rt:51:9
+returns : tie.Need-returns
+returns c = search sign-other
+
+-- src/lib.rt:54:9
+returns-2 : tie.Need-returns-2
+returns-2 c = search sign-join
+
+-- src/lib.rt:47:1
+returns-3 : tie.Need-returns-3
+returns-3 c = search sign-none
+
+pub join-sign-spec : {M : Type 1} → statement M
+join-sign-spec = tie.close (tie.spec enum-known-e returns returns-2 returns-3)

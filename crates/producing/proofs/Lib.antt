@@ -1,0 +1,3 @@
+pub mod Operated
+pub mod Leaves
+pub mod Laws
