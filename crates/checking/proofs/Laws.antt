@@ -5,23 +5,21 @@ use mathlib.Core.List.{List, [], _∷_}
 use mathlib.Core.Bool.{Bool, true, false}
 use native.Mathlib.Omega.{arith}
 use native.Mathlib.Decide.{decLt}
-use lib.Dec.{eqb, ltb}
-use borrow.Author.Tests.{eq-eqb, ne-eqb, lt-ltb, le-ltb}
+use lib.Dec.{ltb}
+use borrow.Author.Tests.{ne-eqb, le-ltb}
 use types.Run.{OneOf, miss}
 use denote.Enum.Declared.{tagOf}
 use Rattle.words.specs.Words.{pick}
 use Rattle.framed.specs.declared.Value.{Value}
-use Rattle.framed.specs.Values.{Heap}
-use Rattle.framed.specs.Tokens.{Operator}
-use Rattle.framed.specs.Tree.{Base, Expression, Slots, Instruction}
-use Rattle.framed.specs.Paths.{Path, from-self, from-program}
-use Rattle.framed.specs.Machine.{Result, gives, ends, _>>=_, defined, base-value}
-use Rattle.bounded.specs.Operations.{Product, operated}
-use Rattle.bounded.specs.Check.{end-of, first-end, operation-result, check-expression, check-slots, check-put, jump-result, ifeq-end, check}
+use Rattle.framed.specs.Tree.{Base, Expression, Instruction}
+use Rattle.framed.specs.Paths.{Path}
+use Rattle.framed.specs.Machine.{Result, _>>=_, defined}
+use Rattle.bounded.specs.Operations.{operated}
+use Rattle.bounded.specs.Check.{end-of, first-end, operation-result, check-expression, check}
 use Rattle.tables.specs.declared.ExpressionEntry.{ExpressionEntry}
 use Rattle.tables.specs.declared.InstructionEntry.{InstructionEntry}
 use Rattle.tables.specs.Entries.{expression-of, expression-at, instruction-at}
-use Rattle.tables.specs.Fields.{expressions, instructions, literals, literal-length, literal-byte, link, slot-after, expression-kind, expression-a, expression-b}
+use Rattle.tables.specs.Fields.{literals, literal-length, literal-byte, link, slot-after, expression-kind, expression-a, expression-b}
 use Rattle.tables.proofs.ExpressionEntry.{the-type}
 use Rattle.program_entries.specs.Form as form
 use Rattle.heap.specs.Words.{self-held, program-held}
@@ -32,17 +30,17 @@ use Rattle.texts.specs.Literals.{literal-held, literals-held}
 use Rattle.texts.specs.Texts.{Readable}
 use Rattle.trees.specs.Trees.{expression-tree, base-tree, path-list}
 use Rattle.trees.specs.Trees as trees
-use Rattle.trees.specs.Held.{base-held, expression-held, slots-held, instruction-held, held, literal-bytes}
+use Rattle.trees.specs.Held.{base-held, expression-held, instruction-held, held, literal-bytes}
 use Rattle.trees.specs.Held as trees-held
-use Rattle.trees.proofs.Held.{one-level-held, not-held, operation-held, assign-self-held, assign-program-held, show-held, jump-held, ifeq-held}
+use Rattle.trees.proofs.Held.{one-level-held, assign-self-held, assign-program-held, show-held, jump-held, ifeq-held}
 use Rattle.operators.specs.Operators.{operator-of, arithmetic-of}
 use Rattle.operands.specs.Operands.{operand-value}
 use Rattle.operands.proofs.Lists.{from-listed}
-use Rattle.operand_checks.specs.OperandChecks.{names-end, put-end, jump-end, ifeq-ends}
+use Rattle.operand_checks.specs.OperandChecks.{put-end, jump-end, ifeq-ends}
 use Rattle.operand_checks.proofs.Laws.{put-self, put-program, jump-any}
 use Rattle.places.specs.Places.{expression-measure, slots-measure}
 use Rattle.places.proofs.Laws as places
-use Rattle.checking.specs.Checking.{Checks, ChecksExpression, ChecksSlots, ChecksInstruction, operation-end, expression-end, slots-end, assign-end, base-in, single-end}
+use Rattle.checking.specs.Checking.{ChecksExpression, ChecksSlots, ChecksInstruction, operation-end, expression-end, slots-end, assign-end, base-in, single-end}
 
 -- ---- The program's literals; the operator of a kind
 

@@ -1,12 +1,10 @@
 -- Well-formed memories have what the functions of this crate ask. Assumes nothing.
 use Prim.Native.Nat.{ℕ, _+_, _-_, _*_, _≤_, _<_}
-use mathlib.Core.Path.{_≡_}
 use mathlib.Core.List.{List}
 use native.Mathlib.Omega.{arith}
 use lib.ListN.{length}
 use Rattle.tables.specs.Fields.{literals, literal-length, instructions}
-use Rattle.heap.specs.Words.{text-word, text-length}
-use Rattle.texts.specs.Texts.{Readable}
+use Rattle.heap.specs.Words.{text-length}
 use Rattle.state_form.proofs.Facts.{well-formed-sized}
 use Rattle.program_form.specs.WellFormed as program
 use Rattle.wellformed.specs.WellFormed.{WellFormed}

@@ -3,7 +3,6 @@
 use Prim.Native.Nat.{ℕ, _<_}
 use mathlib.Core.List.{List}
 use Rattle.framed.specs.declared.Value.{Value}
-use Rattle.framed.specs.Machine.{Result}
 use Rattle.bounded.specs.Check.{end-of, first-end, operation-result, check-expression, check-slots}
 use Rattle.tables.specs.declared.ExpressionEntry.{ExpressionEntry}
 use Rattle.tables.specs.Fields.{expressions, instructions}

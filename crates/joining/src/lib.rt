@@ -28,10 +28,12 @@ pub fn join_end(p: &[u32], h: &[u32], v: Value, w: Value) -> u32
     if !joinable(w) {
         return 31;
     }
-    if 64 < words::wide(shown::shown_size(p, h, v)) + words::wide(shown::shown_size(p, h, w)) {
-        return 34;
+    let n = words::wide(shown::shown_size(p, h, v));
+    let m = words::wide(shown::shown_size(p, h, w));
+    if n + m <= 64 {
+        return 0;
     }
-    0
+    34
 }
 
 // The bytes of the one, then those of the other, from the start of a buffer on.

@@ -1,16 +1,16 @@
 -- One law for each way through the functions that count, for what each call asks and for each fall of the measure. Assumes nothing.
-use Prim.Native.Nat.{ℕ, zero, suc, _+_, _-_, _≤_, _<_}
+use Prim.Native.Nat.{ℕ, _+_, _-_, _<_}
 use mathlib.Core.Path.{_≡_, refl, _∙_, ap, sym}
 use mathlib.Core.List.{List, [], _∷_}
 use mathlib.Core.Bool.{Bool, true, false}
 use native.Mathlib.Omega.{arith}
 use lib.Dec.{eqb}
-use borrow.Author.Tests.{eq-eqb, ne-eqb}
+use borrow.Author.Tests.{ne-eqb}
 use types.Run.{OneOf, miss}
 use denote.Enum.Declared.{tagOf}
 use Rattle.words.specs.Words.{pick}
 use Rattle.framed.specs.Tokens.{Operator}
-use Rattle.framed.specs.Tree.{Base, Expression, Slots, Instruction}
+use Rattle.framed.specs.Tree.{Base, Expression, Slots}
 use Rattle.framed.specs.Paths.{Path}
 use Rattle.framed.specs.Machine.{frame-literals, frame-literals-in, is-join, join-signs, join-signs-in, right-side}
 use Rattle.tables.specs.declared.ExpressionEntry.{ExpressionEntry}

@@ -1,18 +1,17 @@
 -- One law for each way through the functions of this crate. Assumes nothing.
-use Prim.Native.Nat.{ℕ, zero, suc, _+_}
-use mathlib.Core.Path.{_≡_, refl, _∙_, ap, sym}
+use Prim.Native.Nat.{ℕ, zero, suc}
+use mathlib.Core.Path.{_≡_, refl, _∙_, sym}
 use mathlib.Core.List.{List, [], _∷_}
 use mathlib.Core.Bool.{Bool, true, false}
 use types.Run.{OneOf, miss}
 use denote.Enum.Declared.{tagOf}
 use Rattle.framed.proofs.Value.{the-type}
-use Rattle.framed.specs.Common.{if_then_else_}
 use Rattle.framed.specs.declared.Value.{Value}
 use Rattle.framed.specs.Values.{Frame, truth}
 use Rattle.framed.specs.Tree.{Base, Code}
 use Rattle.framed.specs.Paths.{Path, from-self, from-program}
 use Rattle.framed.specs.Machine.{Result, gives, ends, _>>=_, defined, base-value, code-of}
-use Rattle.bounded.specs.Check.{end-of, target, target-end, Jump, jump-result, ifeq-end, check-put}
+use Rattle.bounded.specs.Check.{end-of, target-end, Jump, jump-result, ifeq-end, check-put}
 use Rattle.heap.specs.Words.{self-held, program-held}
 use Rattle.heap.specs.Held.{frames-held}
 use Rattle.paths.specs.declared.Fetched.{Fetched}

@@ -1,12 +1,9 @@
 -- Document 01, "The endless machine", step 2, and "What stops a call": the ends of `:=` at its path, of `jump` and of `ifeq`, over program words p and heap words h.
 -- What they mean is `bounded`'s check. Assumes nothing.
-use Prim.Native.Nat.{ℕ, zero, suc, _+_}
+use Prim.Native.Nat.{ℕ}
 use mathlib.Core.List.{List, [], _∷_}
 use Rattle.framed.specs.declared.Value.{Value}
 use Rattle.framed.specs.Values.{Frame}
-use Rattle.framed.specs.Tree.{Code}
-use Rattle.framed.specs.Paths.{Path}
-use Rattle.framed.specs.Machine.{Result}
 use Rattle.bounded.specs.Check.{target, target-end, end-of, jump-result, ifeq-end}
 use Rattle.heap.specs.Words.{self-held, program-held}
 use Rattle.heap.specs.Held.{frames-held}

@@ -1,8 +1,7 @@
 -- One law for each way through `operand`. Assumes nothing.
 use Prim.Native.Nat.{ℕ}
-use mathlib.Core.Path.{_≡_, refl, _∙_, ap, sym}
+use mathlib.Core.Path.{_≡_, refl, ap}
 use mathlib.Core.List.{List}
-use mathlib.Core.Option.{Option, some}
 use lib.IntN.{ℤ, pos}
 use mir.Syntax.{w32}
 use mir.Val.{toZ, ofZ}
@@ -10,7 +9,7 @@ use mir.ValLaws.{toZ-ofZ}
 use Rattle.framed.specs.declared.Text.{Text}
 use Rattle.framed.specs.declared.Value.{Value}
 use Rattle.framed.specs.Fetch.{fetch}
-use Rattle.framed.specs.Machine.{Result, gives, defined, base-value}
+use Rattle.framed.specs.Machine.{gives, defined, base-value}
 use Rattle.ints.specs.Ints.{int-of}
 use Rattle.ints.proofs.Laws.{int-fits}
 use Rattle.tables.specs.declared.ExpressionEntry.{ExpressionEntry}

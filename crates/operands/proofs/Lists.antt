@@ -1,6 +1,6 @@
 -- The two ways of listing what a function gives, from a number on (crate `trees`) and below a bound (crate `heap`), are the same. Assumes nothing.
 use Prim.Native.Nat.{ℕ, zero, suc, _+_}
-use mathlib.Core.Path.{_≡_, refl, _∙_, ap, sym}
+use mathlib.Core.Path.{_≡_, refl, _∙_, ap}
 use mathlib.Core.List.{List, [], _∷_, _++_}
 use native.Mathlib.Omega.{arith}
 use Rattle.tables.specs.Fields.{path-name}

@@ -2,7 +2,7 @@
 -- those there. Assumes nothing.
 use mathlib.Core.Path.{_≡_, refl, _∙_, ap, sym, subst}
 use mathlib.Core.List.{List}
-use Prim.Native.Nat.{ℕ, zero, suc, _+_, _-_, _*_, _≤_, _<_}
+use Prim.Native.Nat.{ℕ, zero, suc, _-_, _<_}
 use native.Mathlib.Omega.{arith}
 use Rattle.framed.specs.Tree.{Expression, Slots}
 use Rattle.tables.specs.declared.ExpressionEntry.{ExpressionEntry}

@@ -2,8 +2,6 @@ use Rattle.checking.proofs.Laws.{base-itself, base-negated}
 use borrow.Author.Needs.{needs}
 use Rattle.checking.proofs.base_in.Statement.{statement}
 use Rattle.checking.proofs.base_in.Tie as tie
-use Rattle.checking.proofs.base_in.Reads as reads
-use Rattle.checking.proofs.base_in.Lts as lts
 
 -- src/lib.rt:33:30
 enum-known-e : tie.Need-enum-known-e

@@ -2,15 +2,6 @@ use Rattle.checking.proofs.Laws.{self-expression, program-expression, c
 use borrow.Author.Needs.{needs}
 use Rattle.checking.proofs.check.Statement.{statement}
 use Rattle.checking.proofs.check.Tie as tie
-use Rattle.checking.proofs.check.Reads as reads
-use Rattle.checking.proofs.check.Lts as lts
-use Rattle.checking.proofs.check_assign.Reads as check-assign-reads
-use Rattle.heap.proofs.program_value.Reads as program-value-reads
-use Rattle.heap.proofs.self_value.Reads as self-value-reads
-use Rattle.operand_checks.proofs.check_ifeq.Reads as check-ifeq-reads
-use Rattle.operand_checks.proofs.check_jump.Reads as check-jump-reads
-use Rattle.operand_checks.proofs.check_operand.Reads as check-operand-reads
-use Rattle.tables.proofs.instruction_at.Reads as instruction-at-reads
 
 -- src/lib.rt:92:9
 instruction-at-requires : tie.Need-instruction-at-requires

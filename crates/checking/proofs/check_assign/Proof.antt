@@ -2,10 +2,6 @@ use Rattle.checking.proofs.Laws.{assign-met, assign-put}
 use borrow.Author.Needs.{needs}
 use Rattle.checking.proofs.check_assign.Statement.{statement}
 use Rattle.checking.proofs.check_assign.Tie as tie
-use Rattle.checking.proofs.check_assign.Reads as reads
-use Rattle.checking.proofs.check_assign.Lts as lts
-use Rattle.checking.proofs.check_expression.Reads as check-expression-reads
-use Rattle.operand_checks.proofs.check_put.Reads as check-put-reads
 
 -- src/lib.rt:81:9
 check-expression-requires : tie.Need-check-expression-requires

@@ -2,10 +2,6 @@ use Rattle.checking.proofs.Laws.{operation-left, operation-right, opera
 use borrow.Author.Needs.{needs}
 use Rattle.checking.proofs.check_operation.Statement.{statement}
 use Rattle.checking.proofs.check_operation.Tie as tie
-use Rattle.checking.proofs.check_operation.Reads as reads
-use Rattle.checking.proofs.check_operation.Lts as lts
-use Rattle.operands.proofs.operand.Reads as operand-reads
-use Rattle.operators.proofs.operate_end.Reads as operate-end-reads
 
 -- src/lib.rt:20:29
 operand-requires : tie.Need-operand-requires

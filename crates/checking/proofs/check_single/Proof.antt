@@ -2,11 +2,6 @@ use Rattle.checking.proofs.Laws.{single-operand, single-operation}
 use borrow.Author.Needs.{needs}
 use Rattle.checking.proofs.check_single.Statement.{statement}
 use Rattle.checking.proofs.check_single.Tie as tie
-use Rattle.checking.proofs.check_single.Reads as reads
-use Rattle.checking.proofs.check_single.Lts as lts
-use Rattle.checking.proofs.base_in.Reads as base-in-reads
-use Rattle.checking.proofs.check_operation.Reads as check-operation-reads
-use Rattle.operand_checks.proofs.check_operand.Reads as check-operand-reads
 
 -- src/lib.rt:44:34
 enum-known-e : tie.Need-enum-known-e

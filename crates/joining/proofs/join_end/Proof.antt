@@ -10,10 +10,10 @@ returns-2 : tie.Need-returns-2
 returns-2 c = search end-second
 
 returns-3 : tie.Need-returns-3
-returns-3 c = search end-long
+returns-3 c = search end-none
 
 returns-4 : tie.Need-returns-4
-returns-4 c = search end-none
+returns-4 c = search end-long
 
 pub join-end-spec : {M : Type 1} → statement M
 join-end-spec =

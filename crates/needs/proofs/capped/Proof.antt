@@ -2,9 +2,6 @@ use Rattle.needs.proofs.Cap.{capped-large, capped-small}
 use borrow.Author.Needs.{needs}
 use Rattle.needs.proofs.capped.Statement.{statement}
 use Rattle.needs.proofs.capped.Tie as tie
-use Rattle.needs.proofs.capped.Reads as reads
-use Rattle.needs.proofs.capped.Lts as lts
-use Rattle.words.proofs.wide.Reads as wide-reads
 
 -- src/lib.rt:15:15
 wide-requires : tie.Need-wide-requires

@@ -2,10 +2,6 @@ use Rattle.needs.proofs.Laws.{frames-side}
 use borrow.Author.Needs.{needs}
 use Rattle.needs.proofs.frames_needed.Statement.{statement}
 use Rattle.needs.proofs.frames_needed.Tie as tie
-use Rattle.needs.proofs.frames_needed.Reads as reads
-use Rattle.needs.proofs.frames_needed.Lts as lts
-use Rattle.needs.proofs.frames_of.Reads as frames-of-reads
-use Rattle.needs.proofs.right_side.Reads as right-side-reads
 
 -- src/lib.rt:105:18
 right-side-requires : tie.Need-right-side-requires

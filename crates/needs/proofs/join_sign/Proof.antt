@@ -2,8 +2,6 @@ use Rattle.needs.proofs.Laws.{sign-other, sign-join, sign-none}
 use borrow.Author.Needs.{needs}
 use Rattle.needs.proofs.join_sign.Statement.{statement}
 use Rattle.needs.proofs.join_sign.Tie as tie
-use Rattle.needs.proofs.join_sign.Reads as reads
-use Rattle.needs.proofs.join_sign.Lts as lts
 
 -- src/lib.rt:50:34
 enum-known-e : tie.Need-enum-known-e

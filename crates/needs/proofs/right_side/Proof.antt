@@ -2,9 +2,6 @@ use Rattle.needs.proofs.Laws.{side-self, side-program, side-show, side-
 use borrow.Author.Needs.{needs}
 use Rattle.needs.proofs.right_side.Statement.{statement}
 use Rattle.needs.proofs.right_side.Tie as tie
-use Rattle.needs.proofs.right_side.Reads as reads
-use Rattle.needs.proofs.right_side.Lts as lts
-use Rattle.tables.proofs.instruction_at.Reads as instruction-at-reads
 
 -- src/lib.rt:89:9
 instruction-at-requires : tie.Need-instruction-at-requires

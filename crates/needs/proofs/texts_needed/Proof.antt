@@ -2,10 +2,6 @@ use Rattle.needs.proofs.Laws.{joins-side}
 use borrow.Author.Needs.{needs}
 use Rattle.needs.proofs.texts_needed.Statement.{statement}
 use Rattle.needs.proofs.texts_needed.Tie as tie
-use Rattle.needs.proofs.texts_needed.Reads as reads
-use Rattle.needs.proofs.texts_needed.Lts as lts
-use Rattle.needs.proofs.joins_of.Reads as joins-of-reads
-use Rattle.needs.proofs.right_side.Reads as right-side-reads
 
 -- src/lib.rt:113:17
 right-side-requires : tie.Need-right-side-requires

@@ -2,11 +2,6 @@ use Rattle.operand_checks.proofs.Laws.{ifeq-undefined, ifeq-on, ifeq-ju
 use borrow.Author.Needs.{needs}
 use Rattle.operand_checks.proofs.check_ifeq.Statement.{statement}
 use Rattle.operand_checks.proofs.check_ifeq.Tie as tie
-use Rattle.operand_checks.proofs.check_ifeq.Reads as reads
-use Rattle.operand_checks.proofs.check_ifeq.Lts as lts
-use Rattle.operand_checks.proofs.check_jump.Reads as check-jump-reads
-use Rattle.operands.proofs.operand.Reads as operand-reads
-use Rattle.texts.proofs.truth.Reads as truth-reads
 
 -- src/lib.rt:46:29
 operand-requires : tie.Need-operand-requires

@@ -2,10 +2,6 @@ use Rattle.operand_checks.proofs.Laws.{jump-undefined, jump-other, jump
 use borrow.Author.Needs.{needs}
 use Rattle.operand_checks.proofs.check_jump.Statement.{statement}
 use Rattle.operand_checks.proofs.check_jump.Tie as tie
-use Rattle.operand_checks.proofs.check_jump.Reads as reads
-use Rattle.operand_checks.proofs.check_jump.Lts as lts
-use Rattle.operand_checks.proofs.check_operand.Reads as check-operand-reads
-use Rattle.operands.proofs.operand.Reads as operand-reads
 
 -- src/lib.rt:33:29
 operand-requires : tie.Need-operand-requires

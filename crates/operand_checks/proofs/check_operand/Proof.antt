@@ -2,9 +2,6 @@ use Rattle.operand_checks.proofs.Laws.{operand-undefined, operand-found
 use borrow.Author.Needs.{needs}
 use Rattle.operand_checks.proofs.check_operand.Statement.{statement}
 use Rattle.operand_checks.proofs.check_operand.Tie as tie
-use Rattle.operand_checks.proofs.check_operand.Reads as reads
-use Rattle.operand_checks.proofs.check_operand.Lts as lts
-use Rattle.operands.proofs.operand.Reads as operand-reads
 
 -- src/lib.rt:13:29
 operand-requires : tie.Need-operand-requires

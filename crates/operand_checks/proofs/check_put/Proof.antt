@@ -2,9 +2,6 @@ use Rattle.operand_checks.proofs.Laws.{put-empty, put-along}
 use borrow.Author.Needs.{needs}
 use Rattle.operand_checks.proofs.check_put.Statement.{statement}
 use Rattle.operand_checks.proofs.check_put.Tie as tie
-use Rattle.operand_checks.proofs.check_put.Reads as reads
-use Rattle.operand_checks.proofs.check_put.Lts as lts
-use Rattle.puts.proofs.put_end.Reads as put-end-reads
 
 -- src/lib.rt:24:9
 returns : tie.Need-returns

@@ -2,13 +2,6 @@ use Rattle.operands.proofs.Laws.{operand-integer, operand-literal, oper
 use borrow.Author.Needs.{needs}
 use Rattle.operands.proofs.operand.Statement.{statement}
 use Rattle.operands.proofs.operand.Tie as tie
-use Rattle.operands.proofs.operand.Reads as reads
-use Rattle.operands.proofs.operand.Lts as lts
-use Rattle.heap.proofs.program_value.Reads as program-value-reads
-use Rattle.heap.proofs.self_value.Reads as self-value-reads
-use Rattle.ints.proofs.int_of.Reads as int-of-reads
-use Rattle.paths.proofs.fetch.Reads as fetch-reads
-use Rattle.tables.proofs.expression_at.Reads as expression-at-reads
 
 -- src/lib.rt:15:9
 expression-at-requires : tie.Need-expression-at-requires
