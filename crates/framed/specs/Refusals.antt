@@ -1,5 +1,5 @@
 -- Document 01, the table, numbers 1 to 12, as a relation: when each number holds, with the tokens and the tree given by the relations `Tokens⊢` and `Source`.
--- Load gives the lowest number that holds: `proofs/RefusalAgrees` shows that `Meaning.refusal` is that number, and 0 where none holds. Assumes nothing.
+-- Load gives the lowest number that holds: `proofs/RefusalLowest` shows that `Meaning.refusal` is that number, and 0 where none holds. Assumes nothing.
 use mathlib.Core.Path.{_≡_}
 use mathlib.Core.Bool.{true, false, _&&_}
 use mathlib.Core.List.{List}

@@ -1,33 +1,30 @@
 -- The laws of `Runs`: how a reader that is put together runs. Assumes nothing.
 use mathlib.Core.Path.{_≡_, refl, sym, ap, _∙_}
-use mathlib.Core.Bool.{Bool, true, false}
 use mathlib.Core.List.{List, [], _∷_}
-use mathlib.Core.Option.{Option, none, some}
-use Prim.Native.Nat.{ℕ, zero, suc, _+_, _*_, _-_, _<_, _≤_}
+use mathlib.Core.Option.{none}
+use Prim.Native.Nat.{ℕ, suc, _-_, _<_, _≤_}
 use native.Mathlib.Omega.{arith}
-use lib.Dec.{eqb}
 use lib.ListN.{length}
-use borrow.Author.Tests.{eq-eqb, ne-eqb, lt-ltb, le-ltb, eqb-true}
+use borrow.Author.Tests.{eq-eqb, ne-eqb}
 use types.Run.{OneOf, miss}
 use denote.Enum.Declared.{tagOf}
-use Rattle.framed.specs.Common.{if_then_else_}
 use Rattle.framed.specs.Bytes.{class}
-use Rattle.framed.specs.Tokens.{Token, Fixed, Operator, Read, end, no-token, token, next, Tokens⊢}
+use Rattle.framed.specs.Tokens.{Token, Fixed, Operator, token, next, Tokens⊢}
 use Rattle.framed.specs.Symbols.{Symbol, numbered}
 use Rattle.framed.specs.Tree.{Written, Base}
-use Rattle.framed.specs.Parse.{Parsed, fails, parsed, Reader, give, _or_, this, a-name, a-code, a-constant, an-operator, operator-in, fixed-number, many-within, many}
+use Rattle.framed.specs.Parse.{Parsed, fails, parsed, Reader, give, _or_, this, a-name, a-code, a-constant, an-operator, operator-in, fixed-number}
 use Rattle.framed.specs.Parse as P
 use Rattle.framed.proofs.TokensExact.{end≢token, no-token≢token, rest-inj}
 use Rattle.framed.proofs.ParseExact.{bind-out, then-out, bind-fails, then-fails, or-first, or-second}
 use Rattle.source.specs.Positions.{rest}
-use Rattle.token.specs.Reading.{meant, token-of, fixed-kind, operator-kind, token-kind, TokenAt, Spot}
+use Rattle.token.specs.Reading.{meant, token-of, fixed-kind, token-kind, TokenAt, Spot}
 use Rattle.token.proofs.KindNumbers.{kind-is}
 use Rattle.token.proofs.Answers.{spot-of}
 use Rattle.token.specs.declared.TokenRead.{TokenRead}
 use Rattle.token.proofs.TokenRead.{the-type}
 use Rattle.sweep.proofs.Numbered.{operator-range, fixed-below}
 use Rattle.sweep.specs.Kinds.{kind-of, front-kind}
-use Rattle.grammar.specs.Runs.{Outcome, Runs, Any, Onward, Moved, Meets, MeetsAll, Reads, KindAt, Front, Expects, KindsOk}
+use Rattle.grammar.specs.Runs.{Outcome, Runs, Any, Moved, KindAt, Front, Expects, KindsOk}
 use Rattle.grammar.specs.declared.Found.{Found}
 
 -- ---- Readers one after the other, one or the other

@@ -1,18 +1,18 @@
 -- The members of the cycle, one law for each way through each function. Assumes nothing.
-use mathlib.Core.Path.{_≡_, refl, sym, ap, _∙_}
-use mathlib.Core.List.{List, [], _∷_}
+use mathlib.Core.Path.{_≡_, refl}
+use mathlib.Core.List.{List}
 use Prim.Native.Nat.{ℕ, zero, suc, _+_, _*_, _-_, _<_, _≤_}
 use native.Mathlib.Omega.{arith}
 use lib.ListN.{length}
 use Rattle.framed.specs.Tokens.{Fixed}
-use Rattle.framed.specs.Tree.{Written, Base, Expression, Slots, Instruction, Code, _then_}
+use Rattle.framed.specs.Tree.{Base, Expression, Slots, Instruction, _then_}
 use Rattle.framed.specs.Parse.{Reader, give, _or_, this, a-name, a-code, a-constant, an-operator, fixed-number, a-path, a-frame, a-base, an-expression, slots, an-instruction, instructions}
 use Rattle.framed.specs.Parse as P
-use Rattle.grammar.specs.Runs.{Outcome, Runs, Any, Onward, Moved, Meets, MeetsAll, Reads, KindAt, Expects}
+use Rattle.grammar.specs.Runs.{Outcome, Runs, Any, Onward, Meets, MeetsAll, Reads, KindAt, Expects}
 use Rattle.grammar.specs.Readers.{block, negation, operation, binary, frame, more-slots, showing, jumping, branching, assigning}
 use Rattle.grammar.specs.declared.Found.{Found}
-use Rattle.grammar.proofs.Combine.{bind-runs, give-runs, or-runs, or-only, or-else, map-runs, by-runs, by-stops, by-name, by-code, by-constant, by-operator}
-use Rattle.grammar.proofs.Paths.{go-on, go-then, stop-on, stop-then, this-at, not-this, last-then, kind-past, moved, went, later-moved, moved-on, later-on}
+use Rattle.grammar.proofs.Combine.{give-runs, or-runs, or-only, or-else, map-runs, by-runs, by-stops, by-name, by-code, by-constant, by-operator}
+use Rattle.grammar.proofs.Paths.{go-on, go-then, stop-on, stop-then, this-at, not-this, last-then, kind-past, moved, went, moved-on, later-on}
 
 -- from each bound k + 1 to each bound
 from-suc : {A : Type 0} (P : ℕ → Reader A) (s : List ℕ) (at m : ℕ) (r : Found) → ((k : ℕ) → m ≤ k → Runs Any s (P (suc k)) at r) → (n : ℕ) → m < n → Runs Any s (P n) at r

@@ -1,18 +1,17 @@
 -- Paths. Assumes nothing.
-use mathlib.Core.Path.{_≡_, refl, sym, ap, _∙_}
+use mathlib.Core.Path.{_≡_, refl, sym, _∙_}
 use mathlib.Core.List.{List, [], _∷_}
-use Prim.Native.Nat.{ℕ, zero, suc, _+_, _*_, _-_, _<_, _≤_}
+use Prim.Native.Nat.{ℕ, zero, suc, _-_, _<_, _≤_}
 use native.Mathlib.Omega.{arith}
 use lib.ListN.{length}
 use Rattle.framed.specs.Bytes.{class}
-use Rattle.framed.specs.Tokens.{Token, Fixed, next, read, skip, Tokens⊢, end}
+use Rattle.framed.specs.Tokens.{Token, Fixed, next, read, skip, Tokens⊢}
 use Rattle.framed.specs.Symbols.{Symbol, numbered}
 use Rattle.framed.specs.Tree.{Written}
 use Rattle.framed.specs.Parse.{Parsed, fails, parsed, Reader, give, _or_, this, a-name, fixed-number, many-within, many, names, further-ups, a-path}
 use Rattle.framed.specs.Parse as P
 use Rattle.framed.proofs.TokensExact.{end≢token}
-use Rattle.framed.proofs.ParseExact.{bind-out, bind-in, then-in, bind-fails, or-first, or-second, this-in, a-name-in, then-this, fails≢parsed, rest-inj, then-fails}
-use Rattle.source.specs.Positions.{rest}
+use Rattle.framed.proofs.ParseExact.{bind-out, bind-fails, or-first, or-second, this-in, a-name-in, then-this, fails≢parsed}
 use Rattle.source.proofs.Positions.{rest-end}
 use Rattle.sweep.specs.Kinds.{front-kind}
 use Rattle.grammar.specs.Runs.{Outcome, Runs, Any, Onward, Moved, Reads, ReadsOn, Passes, KindAt, Expects}

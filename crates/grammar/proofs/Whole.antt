@@ -1,26 +1,25 @@
 -- The whole source is one frame: the cycle's answer is `parse`'s. Assumes nothing.
 use mathlib.Core.Path.{_≡_, refl, sym, ap, _∙_}
-use mathlib.Core.Bool.{Bool, true, false, not}
+use mathlib.Core.Bool.{false, not}
 use mathlib.Core.List.{List, [], _∷_}
 use mathlib.Core.Option.{Option, none, some}
-use Prim.Native.Nat.{ℕ, zero, suc, _+_, _*_, _-_, _<_, _≤_}
+use Prim.Native.Nat.{ℕ, suc, _+_, _*_, _-_, _<_}
 use native.Mathlib.Omega.{arith}
 use lib.Dec.{eqb}
 use lib.ListN.{length}
-use borrow.Author.Tests.{eq-eqb, ne-eqb}
+use borrow.Author.Tests.{ne-eqb}
 use Rattle.framed.specs.Bytes.{class}
-use Rattle.framed.specs.Tokens.{Token, Fixed, Tokens⊢, tokens}
+use Rattle.framed.specs.Tokens.{Token, Tokens⊢, tokens}
 use Rattle.framed.specs.Symbols.{Symbol, numbered, symbols, name-table}
 use Rattle.framed.specs.Tree.{Written, Slots}
-use Rattle.framed.specs.Parse.{Parsed, fails, parsed, a-frame, slots, whole, parse}
+use Rattle.framed.specs.Parse.{parsed, whole, parse}
 use Rattle.framed.specs.Meaning.{is-none}
 use Rattle.framed.proofs.TokensExact.{tokens-agree}
 use Rattle.framed.proofs.TokensExact.{tokens-fewer}
 use Rattle.framed.proofs.ParseFuel.{parse-bound}
 use Rattle.source.specs.Positions.{rest}
 use Rattle.sweep.specs.Kinds.{kind-of, front-kind}
-use Rattle.token.specs.Reading.{fixed-kind, operator-kind}
-use Rattle.grammar.specs.Runs.{Outcome, Runs, Any, Meets, KindAt, OneFrame}
+use Rattle.grammar.specs.Runs.{Outcome, Any, Meets, KindAt, OneFrame}
 use Rattle.grammar.specs.Readers.{frame}
 use Rattle.grammar.specs.declared.Found.{Found}
 use Rattle.sweep.proofs.Numbered.{fixed-below}

@@ -1,7 +1,7 @@
--- A function over a source and a position runs a reader of `framed` over symbols: it refuses where the reader fails, and where the
+-- Document 01, "Tokens and grammar" and number 6: a function over a source and a position runs a reader of `framed` over symbols: it refuses where the reader fails, and where the
 -- reader finds something, it gives the position where the symbols after it begin. Assumes nothing.
 use mathlib.Core.Path.{_≡_}
-use mathlib.Core.List.{List, [], _∷_}
+use mathlib.Core.List.{List, _∷_}
 use mathlib.Core.Bool.{Bool, not}
 use mathlib.Core.Option.{some}
 use Prim.Native.Nat.{ℕ, _+_, _*_, _-_, _<_, _≤_}

@@ -1,6 +1,5 @@
 // The grammar: functions over a source and a position that call each other in a cycle; the unread source length falls.
-ghost use mathlib.Core.Path.{_≡_};
-ghost use Rattle.framed.specs.Parse.{a-base, a-path, an-expression, slots, an-instruction, instructions, names, further-ups};
+ghost use Rattle.framed.specs.Parse.{a-base, a-path, an-expression, slots, an-instruction, instructions, names};
 ghost use Rattle.grammar.specs.Runs.{Meets, MeetsAll, Reads, ReadsOn, Passes, Expects, KindAt, KindsOk, OneFrame};
 ghost use Rattle.grammar.specs.Readers as R;
 use token::TokenRead;

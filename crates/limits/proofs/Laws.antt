@@ -1,20 +1,19 @@
 -- Laws of the limits, one for each way through each function. Assumes nothing.
-use mathlib.Core.Path.{_≡_, refl, sym, ap, _∙_}
-use mathlib.Core.Bool.{Bool, true, false, _||_}
+use mathlib.Core.Path.{_≡_, sym, ap, _∙_}
+use mathlib.Core.Bool.{Bool, true, false}
 use mathlib.Core.List.{List}
 use mathlib.Core.Option.{some}
 use Prim.Native.Nat.{ℕ, _+_, _-_, _<_, _≤_}
 use native.Mathlib.Omega.{arith}
 use lib.Dec.{leb, ltb}
 use lib.ListN.{length}
-use borrow.Author.Tests.{lt-ltb, le-ltb}
-use Rattle.framed.specs.Common.{any, count, total}
+use Rattle.framed.specs.Common.{count, total}
 use Rattle.framed.specs.Bytes.{class}
 use Rattle.framed.specs.Tokens.{Token, tokens}
 use Rattle.framed.specs.Symbols.{symbols, name-table}
 use Rattle.framed.specs.Tree.{Written, Slots}
 use Rattle.framed.specs.Parse.{parse}
-use Rattle.framed.specs.Meaning.{pieces, expression, instruction, string, code, is-one, misplaced, path-names, above-limit, too-far-up, frame-outside}
+use Rattle.framed.specs.Meaning.{pieces, expression, instruction, string, code, is-one, path-names, above-limit, frame-outside}
 use Rattle.framed.proofs.ParseExact.{parse-sound}
 use Rattle.sweep.specs.Decides.{Decides}
 use Rattle.sums.specs.Weights.{whole-sum, Sums}

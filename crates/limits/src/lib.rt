@@ -1,5 +1,4 @@
 // Numbers 7, 9, 10 and 12: what stands outside code, and the counts against their limits.
-ghost use mathlib.Core.Path.{_≡_};
 ghost use Rattle.sweep.specs.Decides.{Short, Decides};
 ghost use Rattle.limits.specs.Limits.{Above, misplaced-tree, path-names-tree, limit-tree, far-tree, frames-tree};
 

@@ -2,16 +2,15 @@
 use mathlib.Core.Path.{_≡_, refl, sym, ap, _∙_}
 use mathlib.Core.Bool.{Bool, true, false, _&&_, _||_, not, true≢false, false≢true}
 use mathlib.Core.List.{List, [], _∷_, _++_}
-use mathlib.Core.Option.{some}
 use Prim.Native.Nat.{ℕ, zero, suc, _+_, _-_, _<_, _≤_}
 use native.Mathlib.Numerals.{add-one}
 use native.Mathlib.Omega.{arith}
 use lib.Dec.{eqb, ltb}
 use lib.ListN.{length, length-append}
-use borrow.Author.Tests.{eq-eqb, ne-eqb, lt-ltb, le-ltb, eqb-true, eqb-false}
+use borrow.Author.Tests.{ne-eqb, lt-ltb, le-ltb, eqb-true, eqb-false}
 use Rattle.framed.specs.Common.{if_then_else_, any, same}
 use Rattle.framed.specs.Bytes.{class}
-use Rattle.framed.specs.Tokens.{Token, tokens}
+use Rattle.framed.specs.Tokens.{Token}
 use Rattle.framed.specs.Symbols.{names-after, name-table}
 use Rattle.source.specs.Positions.{rest, part}
 use Rattle.words.specs.Words.{word, set-word}
@@ -20,23 +19,11 @@ use Rattle.token.specs.Reading.{token-of, token-kind, TokenAt, Spot}
 use Rattle.token.specs.declared.TokenRead.{TokenRead}
 use Rattle.token.proofs.KindNumbers.{kind-is}
 use Rattle.token.proofs.Answers.{spot-of}
+use Rattle.sweep.proofs.Lists.{or-false, or-true, any-last}
 use Rattle.sweep.proofs.Loop.{Going, Gives, go-start, go-end, go-none, go-done, go-again, go-early}
 use Rattle.names.specs.Kept.{table-of, is-new, Noted, NotHuge, ManyNames}
 
 -- ---- The names kept
-
-any-last : {A : Type 0} (test : A → Bool) (xs : List A) (x : A) → any test (xs ++ (x ∷ [])) ≡ (any test xs || test x)
-unfolding any
-any-last test [] x = either (test x)
-  where
-    either : (t : Bool) → (t || false) ≡ t
-    either true = refl
-    either false = refl
-any-last test (y ∷ xs) x = ap (λ (t : Bool). test y || t) (any-last test xs x) ∙ assoc (test y) (any test xs) (test x)
-  where
-    assoc : (a b c : Bool) → (a || (b || c)) ≡ ((a || b) || c)
-    assoc true b c = refl
-    assoc false b c = refl
 
 pub table-length : (s b e : List ℕ) (n : ℕ) → length (table-of s b e n) ≡ n
 unfolding table-of
@@ -80,18 +67,10 @@ module _ (s b e : List ℕ) (n a p k : ℕ) (i : Searching s b e n a p k) (l : 0
       back k l = omega arith
 
   pub known-found : t ≡ true → true ≡ any (same (part s a p)) (table-of s b e n)
-  known-found d = sym (i .rest-is ∙ last-is ∙ ap (λ (u : Bool). any (same (part s a p)) (table-of s b e (k - 1)) || u) d ∙ either (any (same (part s a p)) (table-of s b e (k - 1))))
-    where
-      either : (t : Bool) → (t || true) ≡ true
-      either true = refl
-      either false = refl
+  known-found d = sym (i .rest-is ∙ last-is ∙ ap (λ (u : Bool). any (same (part s a p)) (table-of s b e (k - 1)) || u) d ∙ or-true (any (same (part s a p)) (table-of s b e (k - 1))))
 
   pub known-again : t ≡ false → Searching s b e n a p (k - 1)
-  known-again d = record { rest-is = i .rest-is ∙ last-is ∙ ap (λ (u : Bool). any (same (part s a p)) (table-of s b e (k - 1)) || u) d ∙ either (any (same (part s a p)) (table-of s b e (k - 1))) }
-    where
-      either : (t : Bool) → (t || false) ≡ t
-      either true = refl
-      either false = refl
+  known-again d = record { rest-is = i .rest-is ∙ last-is ∙ ap (λ (u : Bool). any (same (part s a p)) (table-of s b e (k - 1)) || u) d ∙ or-false (any (same (part s a p)) (table-of s b e (k - 1))) }
 
 -- ---- A new name
 

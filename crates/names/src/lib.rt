@@ -1,6 +1,5 @@
 // Names of a source kept by where they begin and end, and how many distinct ones there are.
 ghost use mathlib.Core.Path.{_≡_};
-ghost use mathlib.Core.Bool.{_&&_, not};
 ghost use Rattle.framed.specs.Common.{any, same};
 ghost use Rattle.source.specs.Positions.{part};
 ghost use Rattle.words.specs.Words.{word, set-word};

@@ -2,20 +2,21 @@
 use mathlib.Core.Path.{_≡_, refl, sym, ap, _∙_}
 use mathlib.Core.Bool.{Bool, true, false, _&&_, _||_}
 use mathlib.Core.List.{List, [], _∷_, _++_, map}
-use Prim.Native.Nat.{ℕ, zero, suc, _+_, _-_, _<_, _≤_}
+use Prim.Native.Nat.{ℕ, suc, _+_, _-_, _<_, _≤_}
 use native.Mathlib.Omega.{arith}
 use lib.Dec.{eqb, ltb}
 use lib.IntN.{ℤ}
 use lib.ListN.{length, length-append, length-map}
 use borrow.Author.Tests.{eq-eqb, ne-eqb, lt-ltb, le-ltb, eqb-true, eqb-false, ltb-true, ltb-false}
-use Rattle.framed.specs.Common.{if_then_else_, any, same, member, has-twice}
+use Rattle.framed.specs.Common.{any, same, member, has-twice}
 use Rattle.framed.specs.Tokens.{Token, Fixed, Operator}
 use Rattle.framed.specs.Symbols.{Symbol, number-in, numbered, symbols, name-table}
-use Rattle.framed.specs.Tree.{Written, Base, Expression, Slots, Instruction, Code, _then_}
+use Rattle.framed.specs.Tree.{Written, Base, Expression, Slots, Instruction, Code}
 use Rattle.framed.specs.Grammar.{Names⊢, Ups⊢, Path⊢, Base⊢, Expression⊢, Frame⊢, Slots⊢, Instruction⊢, Code⊢, Source}
 use Rattle.framed.specs.Paths.{Place, within-slot, within-code, program-place}
 use Rattle.framed.specs.Meaning.{Piece, expression, one, bad-frame, slot-names, base-pieces, expression-pieces, slots-pieces, instruction-pieces, code-pieces, pieces}
 use Rattle.token.specs.Reading.{operator-kind, fixed-kind, token-kind}
+use Rattle.sweep.proofs.Lists.{or-assoc, or-false, any-both}
 use Rattle.sweep.specs.Kinds.{kind-of}
 use Rattle.slots.specs.Own.{Own, own-slots, own-names, repeats, bytes-of, number-of, bad-slots, bad-frames}
 use Rattle.slots.proofs.Numbers.{equal-numbers, Known, table-knows}
@@ -23,15 +24,6 @@ use Rattle.slots.proofs.Pairs.{Pairs, pairs}
 use Rattle.slots.proofs.Trees.{slots-at, slots-agree, agree-names}
 
 -- ---- Names again or too many
-
-any-both : {A : Type 0} (test : A → Bool) (xs ys : List A) → any test (xs ++ ys) ≡ (any test xs || any test ys)
-unfolding any
-any-both test [] ys = refl
-any-both test (x ∷ xs) ys = rw (any-both test xs ys) (assoc (test x) (any test xs) (any test ys))
-  where
-    assoc : (a b c : Bool) → (a || (b || c)) ≡ ((a || b) || c)
-    assoc true b c = refl
-    assoc false b c = refl
 
 eqb-swap : (m n : ℕ) → eqb m n ≡ eqb n m
 eqb-swap m n = go (eqb n m) refl
@@ -151,11 +143,7 @@ module _ (us : List Symbol) where
 
 -- one part after another
 both : {x y : Bool} (a b z : Bool) → x ≡ (a || y) → y ≡ (b || z) → x ≡ ((a || b) || z)
-both a b z e f = e ∙ ap (λ (t : Bool). a || t) f ∙ assoc a b z
-  where
-    assoc : (a b c : Bool) → (a || (b || c)) ≡ ((a || b) || c)
-    assoc true b c = refl
-    assoc false b c = refl
+both a b z e f = e ∙ ap (λ (t : Bool). a || t) f ∙ or-assoc a b z
 
 names-bad : {ts rest : List Symbol} {ns : List ℕ} → Names⊢ ts ns rest → bad-symbols ts ≡ bad-symbols rest
 unfolding fixed-kind
@@ -223,11 +211,7 @@ mutual
 
 source-bad : {us : List Symbol} {ss : Slots Written} → Source us ss → bad-symbols us ≡ any bad-frame (pieces ss)
 unfolding pieces any bad-frame bad-symbols
-source-bad {ss = ss} d = frame-bad program-place d ∙ none ((has-twice (slot-names ss) || ltb 16 (length (slot-names ss))) || any bad-frame (slots-pieces program-place ss))
-  where
-    none : (t : Bool) → (t || false) ≡ t
-    none true = refl
-    none false = refl
+source-bad {ss = ss} d = frame-bad program-place d ∙ or-false ((has-twice (slot-names ss) || ltb 16 (length (slot-names ss))) || any bad-frame (slots-pieces program-place ss))
 
 -- ---- From bytes to numbers
 

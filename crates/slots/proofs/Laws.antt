@@ -3,22 +3,20 @@ use mathlib.Core.Path.{_≡_, refl, sym, ap, _∙_}
 use mathlib.Core.Bool.{Bool, true, false, _&&_, _||_, false≢true}
 use mathlib.Core.List.{List, [], _∷_, _++_}
 use mathlib.Core.Option.{some}
-use Prim.Native.Nat.{ℕ, zero, suc, _+_, _-_, _<_, _≤_}
+use Prim.Native.Nat.{ℕ, _+_, _-_, _<_, _≤_}
 use native.Mathlib.Omega.{arith}
 use lib.Dec.{eqb, ltb}
 use lib.ListN.{length}
-use borrow.Author.Tests.{eq-eqb, ne-eqb, lt-ltb, le-ltb, eqb-true, eqb-false, ltb-true, ltb-false}
+use borrow.Author.Tests.{ne-eqb, lt-ltb, le-ltb, eqb-true, eqb-false, ltb-true, ltb-false}
 use Rattle.framed.specs.Common.{if_then_else_, any, same}
 use Rattle.framed.specs.Bytes.{class}
 use Rattle.framed.specs.Tokens.{Token, tokens}
 use Rattle.framed.specs.Symbols.{symbols}
-use Rattle.framed.specs.Tree.{Written, Slots}
-use Rattle.framed.specs.Meaning.{bad-frame, pieces}
 use Rattle.framed.proofs.ParseExact.{parse-sound}
 use Rattle.source.specs.Positions.{rest, part}
 use Rattle.words.specs.Words.{set-word}
 use Rattle.words.proofs.Laws.{set-size}
-use Rattle.token.specs.Reading.{token-of, token-kind, TokenAt, Spot}
+use Rattle.token.specs.Reading.{token-of, TokenAt, Spot}
 use Rattle.token.specs.declared.TokenRead.{TokenRead}
 use Rattle.token.proofs.KindNumbers.{kind-is}
 use Rattle.token.proofs.Answers.{spot-of}
@@ -27,7 +25,7 @@ use Rattle.sweep.specs.Decides.{Decides}
 use Rattle.sweep.proofs.Loop.{Going, Gives, go-start, go-end, go-none, go-done, go-again, go-early}
 use Rattle.names.specs.Kept.{table-of}
 use Rattle.names.proofs.Laws.{table-length, table-more}
-use Rattle.slots.specs.Own.{closes, names-slot, Own, own, own-slots, own-names, repeats, bytes-of, bad-slots, bad-frames, Added, BadSlots, OpensBad, bad-tree}
+use Rattle.slots.specs.Own.{closes, names-slot, own-slots, own-names, repeats, bytes-of, bad-slots, bad-frames, Added, BadSlots, OpensBad, bad-tree}
 use Rattle.slots.proofs.Bad.{tree-bad}
 
 -- ---- One token

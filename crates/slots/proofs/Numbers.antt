@@ -2,13 +2,14 @@
 use mathlib.Core.Path.{_≡_, refl, sym, ap, _∙_}
 use mathlib.Core.Bool.{Bool, true, false, _&&_, _||_, true≢false, false≢true}
 use mathlib.Core.List.{List, [], _∷_, _++_}
-use Prim.Native.Nat.{ℕ, zero, suc}
+use Prim.Native.Nat.{ℕ, suc}
 use native.Mathlib.Omega.{arith}
 use lib.Dec.{eqb}
 use lib.IntN.{ℤ}
 use borrow.Author.Tests.{eq-eqb, ne-eqb, eqb-true, eqb-false}
 use Rattle.framed.specs.Common.{if_then_else_, any, same}
 use Rattle.framed.specs.Tokens.{Token, Fixed}
+use Rattle.sweep.proofs.Lists.{or-true, any-both, any-last}
 use Rattle.framed.specs.Symbols.{number-in, names-after, name-table}
 
 -- ---- `same` is equality
@@ -92,22 +93,10 @@ pub data Known (table : List (List ℕ)) : List Token → Type 0 where
   fixed : {f : Fixed} {ts : List Token} → Known table ts → Known table (Token.fixed f ∷ ts)
 
 any-before : (test : List ℕ → Bool) (xs ys : List (List ℕ)) → any test xs ≡ true → any test (xs ++ ys) ≡ true
-unfolding any
-any-before test [] ys e = absurd (false≢true e)
-any-before test (x ∷ xs) ys e = go (test x) (λ h. any-before test xs ys h) e
-  where
-    go : (t : Bool) → (any test xs ≡ true → any test (xs ++ ys) ≡ true) → (t || any test xs) ≡ true → (t || any test (xs ++ ys)) ≡ true
-    go true i e = refl
-    go false i e = i e
+any-before test xs ys e = any-both test xs ys ∙ ap (λ (t : Bool). t || any test ys) e
 
-any-last : (test : List ℕ → Bool) (xs : List (List ℕ)) (y : List ℕ) → test y ≡ true → any test (xs ++ (y ∷ [])) ≡ true
-unfolding any
-any-last test [] y e = rw e
-any-last test (x ∷ xs) y e = rw (any-last test xs y e) (either (test x))
-  where
-    either : (t : Bool) → (t || true) ≡ true
-    either true = refl
-    either false = refl
+any-added : (test : List ℕ → Bool) (xs : List (List ℕ)) (y : List ℕ) → test y ≡ true → any test (xs ++ (y ∷ [])) ≡ true
+any-added test xs y e = any-last test xs y ∙ ap (λ (t : Bool). any test xs || t) e ∙ or-true (any test xs)
 
 module _ (test : List ℕ → Bool) where
   kept : (table : List (List ℕ)) (ts : List Token) → any test table ≡ true → any test (names-after table ts) ≡ true
@@ -130,7 +119,7 @@ all-known table (Token.name w ∷ ts) = go (any (same w) table) refl (all-known 
   where
     go : (t : Bool) → any (same w) table ≡ t → Known (names-after table ts) ts → Known (names-after (table ++ (w ∷ [])) ts) ts → Known (names-after (if t then table else table ++ (w ∷ [])) ts) (Token.name w ∷ ts)
     go true e a b = name (kept (same w) table ts e) a
-    go false e a b = name (kept (same w) (table ++ (w ∷ [])) ts (any-last (same w) table w (same-self w))) b
+    go false e a b = name (kept (same w) (table ++ (w ∷ [])) ts (any-added (same w) table w (same-self w))) b
 all-known table (Token.integer z ∷ ts) = integer (all-known table ts)
 all-known table (Token.string w ∷ ts) = string (all-known table ts)
 all-known table (Token.code ∷ ts) = code (all-known table ts)

@@ -1,24 +1,22 @@
 -- The slots found among the symbols of a source are those of its tree, and so are the bad frames. Assumes nothing.
-use mathlib.Core.Path.{_≡_, refl, sym, ap, _∙_}
-use mathlib.Core.Bool.{Bool, true, false, _&&_, _||_}
-use mathlib.Core.List.{List, [], _∷_, _++_}
-use Prim.Native.Nat.{ℕ, zero, suc, _+_, _-_, _<_, _≤_}
+use mathlib.Core.Path.{_≡_, refl, ap, _∙_}
+use mathlib.Core.Bool.{Bool, true, false}
+use mathlib.Core.List.{List, [], _∷_}
+use Prim.Native.Nat.{ℕ, _+_, _-_}
 use native.Mathlib.Omega.{arith}
-use lib.Dec.{eqb, ltb}
+use lib.Dec.{eqb}
 use lib.IntN.{ℤ}
-use lib.ListN.{length, length-append}
-use borrow.Author.Tests.{eq-eqb, ne-eqb, lt-ltb, le-ltb, eqb-true, eqb-false, ltb-true, ltb-false}
-use Rattle.framed.specs.Common.{if_then_else_, any, member, has-twice}
+use borrow.Author.Tests.{ne-eqb}
+use Rattle.framed.specs.Common.{if_then_else_}
 use Rattle.framed.specs.Tokens.{Fixed, Operator}
 use Rattle.framed.specs.Symbols.{Symbol}
 use Rattle.framed.specs.Tree.{Written, Base, Expression, Slots, Instruction, Code, _then_}
-use Rattle.framed.specs.Grammar.{Names⊢, Ups⊢, Path⊢, Base⊢, Expression⊢, Frame⊢, Slots⊢, Instruction⊢, Code⊢, Source}
-use Rattle.framed.specs.Paths.{Place, within-slot, within-code, program-place}
-use Rattle.framed.specs.Meaning.{Kind, expression, Piece, frame, path, operator, one, bad-frame, slot-names, base-pieces, expression-pieces, slots-pieces, instruction-pieces, code-pieces, pieces}
+use Rattle.framed.specs.Grammar.{Names⊢, Ups⊢, Path⊢, Base⊢, Expression⊢, Frame⊢, Slots⊢, Instruction⊢, Code⊢}
+use Rattle.framed.specs.Meaning.{frame, path, operator, slot-names}
 use Rattle.token.specs.Reading.{operator-kind, fixed-kind}
 use Rattle.scan.specs.Scan.{depth-after}
 use Rattle.sweep.specs.Kinds.{kind-of}
-use Rattle.slots.specs.Own.{closes, names-slot, Own, own, own-slots, own-names, repeats, number-of}
+use Rattle.slots.specs.Own.{closes, names-slot, Own, own, own-slots, own-names, number-of}
 
 -- ---- One symbol
 
@@ -139,18 +137,6 @@ module _ (d l : ℕ) (us : List Symbol) where
 o-path-name : (d n : ℕ) (us : List Symbol) → slots-at d 7 (Symbol.name n ∷ us) ≡ slots-at d 25 us
 unfolding kind-of closes names-slot depth-after
 o-path-name d n us = pass d 7 (Symbol.name n) us 25 d refl refl refl refl
-
-no-dot-operator : (o : Operator) → eqb (operator-kind o) 7 ≡ false
-unfolding operator-kind
-no-dot-operator Operator.plus = refl
-no-dot-operator Operator.minus = refl
-no-dot-operator Operator.times = refl
-no-dot-operator Operator.over = refl
-no-dot-operator Operator.less = refl
-no-dot-operator Operator.join = refl
-no-dot-operator Operator.equal = refl
-no-dot-operator Operator.and = refl
-no-dot-operator Operator.or = refl
 
 -- ---- Parts that hold no slot of the frame
 

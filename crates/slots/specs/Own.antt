@@ -1,7 +1,7 @@
 -- Document 01, the table, number 8: the slots of a frame, found among the tokens from its `[` on. A name directly in the frame, not after a
 -- dot, is a slot's; brackets inside it are counted. For tokens and for symbols alike, by their kinds. Assumes nothing.
 use mathlib.Core.Path.{_≡_}
-use mathlib.Core.Bool.{Bool, true, false, _&&_, _||_}
+use mathlib.Core.Bool.{Bool, false, _&&_, _||_}
 use mathlib.Core.List.{List, [], _∷_, _++_}
 use mathlib.Core.Option.{some}
 use Prim.Native.Nat.{ℕ, _+_}

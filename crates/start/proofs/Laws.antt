@@ -1,21 +1,20 @@
 -- Laws of finding Main.start, one for each way through each function. Assumes nothing.
-use mathlib.Core.Path.{_≡_, refl, sym, ap, _∙_}
-use mathlib.Core.Bool.{Bool, true, false, _&&_, not, false≢true}
+use mathlib.Core.Path.{_≡_, refl, sym, _∙_}
+use mathlib.Core.Bool.{Bool, true, false, _&&_}
 use mathlib.Core.List.{List, [], _∷_}
 use mathlib.Core.Option.{Option, none, some}
-use Prim.Native.Nat.{ℕ, _+_, _-_, _<_, _≤_}
+use Prim.Native.Nat.{ℕ, _-_, _<_, _≤_}
 use native.Mathlib.Omega.{arith}
 use lib.Dec.{eqb}
 use lib.ListN.{length}
-use borrow.Author.Tests.{eq-eqb, ne-eqb, eqb-true, eqb-false}
+use borrow.Author.Tests.{eq-eqb, ne-eqb}
 use types.Run.{OneOf, miss}
 use denote.Enum.Declared.{tagOf}
 use Rattle.framed.specs.Common.{if_then_else_, bytes, same}
 use Rattle.framed.specs.Bytes.{class}
-use Rattle.framed.specs.Tokens.{Token, tokens, prepend}
-use Rattle.framed.proofs.General.{none≢some, some-inj}
-use Rattle.source.specs.Positions.{rest, part}
-use Rattle.token.specs.Reading.{token-of, token-kind, TokenAt, Spot}
+use Rattle.framed.specs.Tokens.{Token}
+use Rattle.source.specs.Positions.{part}
+use Rattle.token.specs.Reading.{token-of, TokenAt, Spot}
 use Rattle.token.specs.declared.TokenRead.{TokenRead}
 use Rattle.token.proofs.TokenRead.{the-type}
 use Rattle.token.proofs.KindNumbers.{kind-is}
@@ -23,7 +22,7 @@ use Rattle.token.proofs.Answers.{spot-of}
 use Rattle.scan.specs.Scan.{depth-after, NotHuge}
 use Rattle.sweep.proofs.Loop.{Going, Gives, go-start, go-end, go-none, go-done, go-token, go-again, go-early}
 use Rattle.grammar.specs.declared.Found.{Found}
-use Rattle.slots.specs.Own.{closes, names-slot, own, own-slots, bytes-of}
+use Rattle.slots.specs.Own.{closes, names-slot, own-slots}
 use Rattle.slots.proofs.Laws.{slot-name, name-is, depth-small}
 use Rattle.start.specs.Find.{and-then, after-kind, first-slot, find, value, opening, start-value, Begins, nowhere, here, Leads}
 

@@ -1,27 +1,27 @@
 -- What is found among the tokens of a source is what its tree has. Assumes nothing.
-use mathlib.Core.Path.{_≡_, refl, sym, ap, _∙_, subst}
+use mathlib.Core.Path.{_≡_, refl, sym, ap, _∙_}
 use mathlib.Core.Bool.{Bool, true, false, _||_, not, true≢false, false≢true}
-use mathlib.Core.List.{List, [], _∷_, _++_}
+use mathlib.Core.List.{List, [], _∷_}
 use mathlib.Core.Option.{Option, none, some}
-use Prim.Native.Nat.{ℕ, suc, _≤_}
+use Prim.Native.Nat.{ℕ}
 use native.Mathlib.Omega.{arith}
 use lib.Dec.{eqb}
 use borrow.Author.Tests.{eq-eqb, ne-eqb}
 use Rattle.framed.specs.Common.{if_then_else_, bytes, any, same}
-use Rattle.framed.specs.Bytes.{class}
-use Rattle.framed.specs.Tokens.{Token, Fixed, Operator, tokens}
+use Rattle.framed.specs.Tokens.{Token, Fixed, Operator}
 use Rattle.framed.specs.Symbols.{Symbol, number-in, numbered, symbols, name-table}
 use Rattle.framed.specs.Tree.{Written, Base, Expression, Slots}
 use Rattle.framed.specs.Grammar.{Path⊢, Base⊢, Expression⊢, Frame⊢, Slots⊢, Source}
 use Rattle.framed.specs.Paths.{Place, outside-code, in-code, within-slot, program-place}
-use Rattle.framed.specs.Meaning.{Piece, frame, path, operator, one, outside, misplaced, slot-names, base-pieces, expression-pieces, slots-pieces, pieces, slot-of, frame-in, code-in, main-start, is-none}
-use Rattle.framed.proofs.General.{some≢none, some-inj}
+use Rattle.framed.specs.Meaning.{frame, path, outside, misplaced, base-pieces, expression-pieces, slots-pieces, pieces, slot-of, frame-in, code-in, main-start, is-none}
+use Rattle.framed.proofs.General.{some-inj}
 use Rattle.framed.proofs.ParseExact.{parse-sound}
 use Rattle.source.specs.Positions.{rest}
-use Rattle.token.specs.Reading.{token-kind, fixed-kind, operator-kind}
+use Rattle.token.specs.Reading.{token-kind, fixed-kind}
+use Rattle.sweep.proofs.Lists.{any-both}
 use Rattle.sweep.specs.Kinds.{kind-of, front-kind}
 use Rattle.grammar.specs.declared.Found.{Found}
-use Rattle.slots.specs.Own.{Own, own, own-slots, bytes-of}
+use Rattle.slots.specs.Own.{Own, own, bytes-of}
 use Rattle.slots.proofs.Numbers.{equal-numbers, Known, table-knows}
 use Rattle.slots.proofs.Pairs.{Pairs, pairs}
 use Rattle.slots.proofs.Trees.{slots-at, Agrees, slots-agree}
@@ -35,9 +35,6 @@ symbol-inj e = cc
 
 rest-same : {x y : Symbol} {us vs : List Symbol} → x ∷ us ≡ y ∷ vs → us ≡ vs
 rest-same e = cc
-
-different : {x y : Symbol} → x ≡ y → (kind-of x ≡ kind-of y → ⊥) → ⊥
-different e n = n (ap kind-of e)
 
 slot-none : (n : ℕ) → slot-of {P = Written} n Slots.no-slots ≡ none
 unfolding slot-of
@@ -203,15 +200,6 @@ or-right : (a b : Bool) → (a || b) ≡ false → b ≡ false
 or-right true b e = absurd (true≢false e)
 or-right false b e = e
 
-any-both : (ps qs : List Piece) → any misplaced (ps ++ qs) ≡ (any misplaced ps || any misplaced qs)
-unfolding any
-any-both [] qs = refl
-any-both (p ∷ ps) qs = rw (any-both ps qs) (assoc (misplaced p) (any misplaced ps) (any misplaced qs))
-  where
-    assoc : (a b c : Bool) → (a || (b || c)) ≡ ((a || b) || c)
-    assoc true b c = refl
-    assoc false b c = refl
-
 -- the value of a slot, and the place inside it
 record Clean (p : Place) (x : Option (Expression Written)) : Type 0 where
   inside : Place
@@ -231,7 +219,7 @@ slot-clean n p (Slots.slot m a ss) o e =
     (slot-clean n p ss o (or-right (any misplaced (expression-pieces p (within-slot m p) a)) (any misplaced (slots-pieces p ss)) both))
   where
     both : (any misplaced (expression-pieces p (within-slot m p) a) || any misplaced (slots-pieces p ss)) ≡ false
-    both = sym (any-both (expression-pieces p (within-slot m p) a) (slots-pieces p ss)) ∙ e
+    both = sym (any-both misplaced (expression-pieces p (within-slot m p) a) (slots-pieces p ss)) ∙ e
 
     go : (t : Bool) → any misplaced (expression-pieces p (within-slot m p) a) ≡ false → Clean p (slot-of n ss) → Clean p (elim t [ true ↦ some a | false ↦ slot-of n ss ])
     go true h i = record { inside = within-slot m p; is-outside = slot-outside m p o; pieces-clean = λ b g. rw (← some-inj g) h }

@@ -1,7 +1,7 @@
 -- Document 01, the table, number 11: the code in slot start of the frame in slot Main, found among the tokens. Each step gives the tokens after
 -- what it looks for, or nothing. Assumes nothing.
 use mathlib.Core.Path.{_≡_}
-use mathlib.Core.Bool.{Bool, true, false, not}
+use mathlib.Core.Bool.{Bool, false, not}
 use mathlib.Core.List.{List, [], _∷_}
 use mathlib.Core.Option.{Option, none, some}
 use Prim.Native.Nat.{ℕ}

@@ -1,7 +1,7 @@
 -- The sums over the pieces of a tree are `framed`'s counts and tests, number by number. Assumes nothing.
-use mathlib.Core.Path.{_≡_, refl, sym, ap, _∙_}
+use mathlib.Core.Path.{_≡_, refl, ap, _∙_}
 use mathlib.Core.Bool.{Bool, true, false, _||_}
-use mathlib.Core.List.{List, [], _∷_, _++_}
+use mathlib.Core.List.{List, [], _∷_}
 use Prim.Native.Nat.{ℕ, zero, suc, _+_, _-_, _<_, _≤_}
 use native.Mathlib.Omega.{arith}
 use lib.Dec.{eqb, ltb}
@@ -10,15 +10,10 @@ use lib.Seq.{length-take-le}
 use borrow.Author.Tests.{lt-ltb, le-ltb, ltb-true, ltb-false}
 use Rattle.framed.specs.Common.{if_then_else_, any, count, total}
 use Rattle.framed.specs.Tree.{Written}
-use Rattle.framed.specs.Paths.{Place, outside-code, in-code, holder, names-up, above-program, names-of, resolve-path}
+use Rattle.framed.specs.Paths.{outside-code, in-code, holder, names-up, above-program, names-of, resolve-path}
 use Rattle.framed.specs.Meaning.{Kind, expression, instruction, string, code, kind-number, Piece, frame, path, operator, one, outside, is-one, misplaced, path-names, too-far-up, frame-outside}
 use Rattle.sums.specs.Weights.{one-if, up-weight}
-use Rattle.sums.proofs.Trees.{out, first-up, further-up, ups-weight, names-weight, written-weight, kind-weight, piece-weight}
-
-out-none : (t : Bool) → out t 0 ≡ 0
-unfolding out
-out-none true = refl
-out-none false = refl
+use Rattle.sums.proofs.Trees.{out, out-none, first-up, further-up, ups-weight, names-weight, written-weight, kind-weight, piece-weight}
 
 -- ---- Totals, counts and tests
 

@@ -16,14 +16,19 @@ use Rattle.framed.specs.Grammar.{Names⊢, Ups⊢, Path⊢, Base⊢, Expression
 use Rattle.framed.specs.Paths.{Place, outside-code, in-code, holder, within-slot, within-code, program-place}
 use Rattle.framed.specs.Meaning.{Kind, expression, instruction, string, code, Piece, frame, path, operator, one, outside, slot-names, base-pieces, expression-pieces, slots-pieces, instruction-pieces, code-pieces, pieces}
 use Rattle.token.specs.Reading.{operator-kind, fixed-kind}
-use Rattle.sweep.specs.Kinds.{kind-of, kinds, symbol-kinds}
-use Rattle.sweep.proofs.Numbered.{numbered-kinds}
+use Rattle.sweep.specs.Kinds.{kind-of, symbol-kinds}
+use Rattle.sweep.proofs.Numbered.{numbered-kinds, no-dot-operator}
 use Rattle.sums.specs.Weights.{one-if, opened, closed, curly-after, square-after, further-after, expression-weight, plain-weight, mark-weight, placed-weight, up-weight, path-weight, weight, sum-of, whole-sum}
 
 -- what counts outside code only
 unfoldable pub out : Bool → ℕ → ℕ
 out true n = n
 out false n = 0
+
+pub out-none : (t : Bool) → out t 0 ≡ 0
+unfolding out
+out-none true = refl
+out-none false = refl
 
 module _ (what : ℕ) where
   -- ---- What a piece adds
@@ -61,10 +66,6 @@ module _ (what : ℕ) where
 
   abbrev held : List Piece → ℕ
   held ps = total piece-weight ps
-
-  held-cons : (p : Piece) (ps : List Piece) → held (p ∷ ps) ≡ piece-weight p + held ps
-  unfolding total
-  held-cons p ps = refl
 
   held-one : (k : Kind) (ps : List Piece) → held (one k ∷ ps) ≡ kind-weight k + held ps
   unfolding total piece-weight
@@ -118,11 +119,6 @@ module _ (what : ℕ) where
       go : (t : Bool) → (if t then mark-weight what k else 0) ≡ out t n
       go true = e
       go false = refl
-
-  out-none : (t : Bool) → out t 0 ≡ 0
-  unfolding out
-  out-none true = refl
-  out-none false = refl
 
   module _ (c q f l : ℕ) (x : Symbol) (us : List Symbol) where
     step : (n m j c' q' f' k : ℕ) → kind-of x ≡ k → plain-weight what k ≡ n → mark-weight what k ≡ m → path-weight what q f l k ≡ j →
@@ -237,18 +233,6 @@ module _ (what : ℕ) where
     s-further : sum c q f 7 (Symbol.fixed Fixed.up ∷ us) ≡ 0 + out (eqb c 0) (one-if what 5) + further-up q f + sum c q (f + 1) 8 us
     unfolding kind-of fixed-kind operator-kind plain-weight expression-weight mark-weight path-weight curly-after square-after further-after further-up
     s-further = step c q f 7 (Symbol.fixed Fixed.up) us 0 (one-if what 5) (up-weight what q f 7) c q (f + 1) 8 refl refl refl refl refl refl refl
-
-  no-dot-operator : (o : Operator) → eqb (operator-kind o) 7 ≡ false
-  unfolding operator-kind
-  no-dot-operator Operator.plus = refl
-  no-dot-operator Operator.minus = refl
-  no-dot-operator Operator.times = refl
-  no-dot-operator Operator.over = refl
-  no-dot-operator Operator.less = refl
-  no-dot-operator Operator.join = refl
-  no-dot-operator Operator.equal = refl
-  no-dot-operator Operator.and = refl
-  no-dot-operator Operator.or = refl
 
   close-one : (c q f : ℕ) (us : List Symbol) → sum (c + 1 - 1) q f 15 us ≡ sum c q f 15 us
   close-one c q f us = ap (λ (j : ℕ). sum j q f 15 us) (back c)

@@ -1,2 +1,3 @@
 pub mod Numbered
 pub mod Loop
+pub mod Lists

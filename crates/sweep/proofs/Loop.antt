@@ -3,8 +3,7 @@
 use mathlib.Core.Path.{_≡_, refl, sym, ap, _∙_}
 use mathlib.Core.List.{List, [], _∷_}
 use mathlib.Core.Option.{Option, none, some}
-use Prim.Native.Nat.{ℕ, _-_, _<_, _≤_}
-use native.Mathlib.Omega.{arith}
+use Prim.Native.Nat.{ℕ, _-_, _≤_}
 use lib.ListN.{length}
 use Rattle.framed.specs.Bytes.{class}
 use Rattle.framed.specs.Tokens.{Token, tokens, prepend, next, read, skip, end}
@@ -12,9 +11,9 @@ use Rattle.framed.proofs.General.{none≢some, some-inj}
 use Rattle.framed.proofs.TokensExact.{tokens-end}
 use Rattle.source.specs.Positions.{rest}
 use Rattle.source.proofs.Positions.{rest-end}
-use Rattle.token.specs.Reading.{token-of, TokenAt, Spot}
+use Rattle.token.specs.Reading.{token-of, TokenAt}
 use Rattle.token.specs.declared.TokenRead.{TokenRead}
-use Rattle.token.proofs.Answers.{spot-of, tokens-at-end, tokens-at-none, tokens-at-token}
+use Rattle.token.proofs.Answers.{tokens-at-end, tokens-at-none, tokens-at-token}
 
 unfoldable pub over : {X : Type 0} → (List Token → X) → Option (List Token) → Option X
 over F none = none

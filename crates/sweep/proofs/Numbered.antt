@@ -1,8 +1,10 @@
 -- The kinds of fixed tokens, and that numbering tokens keeps their kinds. Assumes nothing.
 use mathlib.Core.Path.{_≡_, refl, ap}
+use mathlib.Core.Bool.{false}
 use mathlib.Core.List.{List, [], _∷_}
 use Prim.Native.Nat.{ℕ, suc, _≤_}
 use native.Mathlib.Omega.{arith}
+use lib.Dec.{eqb}
 use Rattle.framed.specs.Tokens.{Token, Fixed, Operator}
 use Rattle.framed.specs.Symbols.{numbered}
 use Rattle.token.specs.Reading.{operator-kind, fixed-kind, token-kind}
@@ -48,3 +50,16 @@ fixed-below Fixed.close-square = omega arith
 fixed-below Fixed.open-curly = omega arith
 fixed-below Fixed.close-curly = omega arith
 fixed-below (Fixed.operator o) = operator-range o .1
+
+-- no operator is a dot
+pub no-dot-operator : (o : Operator) → eqb (operator-kind o) 7 ≡ false
+unfolding operator-kind
+no-dot-operator Operator.plus = refl
+no-dot-operator Operator.minus = refl
+no-dot-operator Operator.times = refl
+no-dot-operator Operator.over = refl
+no-dot-operator Operator.less = refl
+no-dot-operator Operator.join = refl
+no-dot-operator Operator.equal = refl
+no-dot-operator Operator.and = refl
+no-dot-operator Operator.or = refl

@@ -1,5 +1,5 @@
 -- Document 01, "Tokens and grammar": the kind numbers of tokens, for the symbols that the grammar reads. Assumes nothing.
-use mathlib.Core.List.{List, [], _∷_, map}
+use mathlib.Core.List.{List, [], _∷_}
 use Prim.Native.Nat.{ℕ}
 use Rattle.framed.specs.Tokens.{Token}
 use Rattle.framed.specs.Symbols.{Symbol}

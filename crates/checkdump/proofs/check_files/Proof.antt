@@ -1,7 +1,6 @@
 use Prim.Native.Nat.{_-_}
 use lib.ListN.{length}
 use native.Mathlib.Omega.{arith}
-use Rattle.checkdump.specs.Lines.{Begins}
 use borrow.Author.Needs.{needs}
 use Rattle.checkdump.proofs.check_files.Statement.{statement}
 use Rattle.checkdump.proofs.check_files.Tie as tie

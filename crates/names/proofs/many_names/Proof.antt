@@ -1,7 +1,6 @@
 use Rattle.names.proofs.Laws.{Naming, naming-start, naming-end, naming-none, naming-small, naming-many, naming-again, naming-done}
 use Prim.Native.Nat.{_-_}
 use lib.ListN.{length}
-use Rattle.framed.specs.Bytes.{class}
 use Rattle.token.proofs.Answers.{token-less}
 use borrow.Author.Needs.{needs}
 use Rattle.names.proofs.many_names.Statement.{statement}

@@ -1,7 +1,6 @@
 use Rattle.slots.proofs.Laws.{Passing, pass-start, pass-end, pass-none, pass-bad, pass-again, pass-done}
 use Prim.Native.Nat.{_-_}
 use lib.ListN.{length}
-use Rattle.framed.specs.Bytes.{class}
 use Rattle.token.proofs.Answers.{token-less}
 use borrow.Author.Needs.{needs}
 use Rattle.slots.proofs.bad_frame.Statement.{statement}

@@ -1,7 +1,6 @@
 use Rattle.slots.proofs.Laws.{Collecting, collect-start, collect-end, collect-none, collect-closes, collect-repeated, collect-few, collect-many, collect-shallow, collect-again, collect-done}
 use Prim.Native.Nat.{_-_}
 use lib.ListN.{length}
-use Rattle.framed.specs.Bytes.{class}
 use Rattle.token.proofs.Answers.{token-less}
 use borrow.Author.Needs.{needs}
 use Rattle.slots.proofs.bad_slots.Statement.{statement}

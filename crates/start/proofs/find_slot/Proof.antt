@@ -1,7 +1,6 @@
 use Rattle.start.proofs.Laws.{Finding, find-start, find-end, find-none, find-closes, find-found, find-shallow, find-again, find-done}
 use Prim.Native.Nat.{_-_}
 use lib.ListN.{length}
-use Rattle.framed.specs.Bytes.{class}
 use Rattle.token.proofs.Answers.{token-less}
 use borrow.Author.Needs.{needs}
 use Rattle.start.proofs.find_slot.Statement.{statement}

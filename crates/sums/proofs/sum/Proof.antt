@@ -2,7 +2,6 @@ use Rattle.sums.proofs.Laws.{Summing, sum-start, sum-end, sum-none, sum
 use Prim.Native.Nat.{_-_}
 use lib.ListN.{length}
 use Rattle.token.proofs.Answers.{token-less}
-use Rattle.framed.specs.Bytes.{class}
 use borrow.Author.Needs.{needs}
 use Rattle.sums.proofs.sum.Statement.{statement}
 use Rattle.sums.proofs.sum.Tie as tie

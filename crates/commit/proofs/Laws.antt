@@ -1,0 +1,366 @@
+-- What each way through the functions gives. Assumes nothing.
+use Prim.Native.Nat.{ℕ, zero, suc, _≤_, _<_}
+use mathlib.Core.Path.{_≡_, refl, _∙_, ap, sym}
+use mathlib.Core.List.{List, [], _∷_}
+use mathlib.Core.Bool.{Bool, true, false}
+use native.Mathlib.Omega.{arith}
+use native.Mathlib.Decide.{decLe}
+use lib.ListN.{length, getD}
+use types.Run.{OneOf, miss}
+use denote.Enum.Declared.{tagOf}
+use borrow.Author.Tests.{le-leb, lt-leb}
+use Rattle.framed.specs.declared.Value.{Value}
+use Rattle.framed.proofs.Value.{the-type}
+use Rattle.framed.specs.Values.{truth}
+use Rattle.framed.specs.Tree.{Instruction, Code}
+use Rattle.framed.specs.Paths.{Path, from-self, from-program}
+use Rattle.framed.specs.Machine as M
+use Rattle.framed.specs.Machine.{Result, gives, ends, defined, base-value, code-of, right-side}
+use Rattle.tables.specs.declared.InstructionEntry.{InstructionEntry}
+use Rattle.tables.specs.Entries.{instruction-at}
+use Rattle.tables.specs.Fields.{expressions, codes, code-first, instructions, instruction-after}
+use Rattle.program_entries.specs.Form.{InstructionForm}
+use Rattle.program_form.specs.Sound.{Sound}
+use Rattle.program_form.proofs.Decides.{sound}
+use Rattle.trees.specs.Trees.{path-list}
+use Rattle.trees.specs.Held as trees
+use Rattle.trees.specs.Held.{remaining, list-from, OneLevel}
+use Rattle.trees.proofs.Held.{one-level-held, assign-self-held, assign-program-held, show-held, jump-held, ifeq-held}
+use Rattle.heap.specs.Words.{self-held, program-held, set-self, set-program, set-position}
+use Rattle.heap.specs.Held.{frames-held}
+use Rattle.heap.specs.Closed.{ValueFits}
+use Rattle.paths.specs.declared.Fetched.{Fetched}
+use Rattle.puts.specs.declared.PutTarget.{PutTarget}
+use Rattle.paths.specs.Paths.{fetched, path-held}
+use Rattle.puts.specs.Puts.{targeted, target-along, put-slot}
+use Rattle.operands.specs.Operands.{operand-value}
+use Rattle.operands.proofs.Lists.{same-path}
+use Rattle.bounded.specs.Check.{Target, target, Jump, jump-result}
+use Rattle.bounded.specs.Bounded.{Bounded, Produced, evaluate, value-given, over-store, assign-at, commit-assign, commit-jump, commit, heap-in, goes-on}
+use Rattle.word_store.specs.Store.{Memories, word-store}
+use Rattle.word_store.specs.State.{store-held, state-held, with-self, with-program, with-remaining, HeldAfter}
+use Rattle.word_store.proofs.Updates.{held-after}
+use Rattle.producing.specs.Producing.{HeaderKept, Leaves, made}
+use Rattle.evaluation.specs.Evaluation.{strings, CanEvaluate, Evaluates}
+use Rattle.evaluation.proofs.Stores.{frames-are, self-kept, program-kept}
+use Rattle.evaluation.proofs.Fits.{operand-fits}
+use Rattle.commit.specs.Commit.{put-at, put-along, state-of, HeaderStays, Assigns, first-place, CanJump, Jumps, CanCommit, Commits}
+use Rattle.commit.proofs.Headers.{kept-state, kept-stays, stays-both, self-stays, program-stays, position-stays, self-size, program-size, position-size, put-store, put-header, put-size}
+
+-- ---- put
+
+module _ (p h : List ℕ) (root : Value) (j n : ℕ) (v : Value) (r : PutTarget) (er : targeted r ≡ target-along (frames-held h) root (path-held p j n)) where
+  pub put-nowhere : r ≡ PutTarget.NoRule → h ≡ put-along p h root j n v
+  unfolding put-along put-at
+  put-nowhere e = rw (← er, e)
+
+  pub put-somewhere : (f x : ℕ) (h′ : List ℕ) → r ≡ PutTarget.At f x → h′ ≡ put-slot h f x v → h′ ≡ put-along p h root j n v
+  unfolding put-along put-at
+  put-somewhere f x h′ e eh = rw (← er, e) eh
+
+-- ---- assign
+
+-- Put along a path with names
+along-self : (b : Bounded Memories) (rest : Code Path) (ns : List ℕ) (r : Produced Memories) → (ns ≡ [] → ⊥) →
+    commit-assign word-store b rest (from-self ns) r
+    ≡ goes-on word-store b rest (b .self) (b .program) (assign-at word-store (target-along (heap-in word-store (r .store) .frames) (b .self) ns) (r .value) (r .store))
+unfolding commit-assign target-along
+along-self b rest [] r ne = absurd (ne refl)
+along-self b rest (n ∷ ns) r ne = refl
+
+along-program : (b : Bounded Memories) (rest : Code Path) (ns : List ℕ) (r : Produced Memories) → (ns ≡ [] → ⊥) →
+    commit-assign word-store b rest (from-program ns) r
+    ≡ goes-on word-store b rest (b .self) (b .program) (assign-at word-store (target-along (heap-in word-store (r .store) .frames) (b .program) ns) (r .value) (r .store))
+unfolding commit-assign target-along
+along-program b rest [] r ne = absurd (ne refl)
+along-program b rest (n ∷ ns) r ne = refl
+
+no-names : (p : List ℕ) (n j : ℕ) → n ≡ 0 → path-list p n j ≡ []
+unfolding path-list
+no-names p n j e = rw e
+
+some-names : (p : List ℕ) (n j : ℕ) → (n ≡ 0 → ⊥) → path-list p n j ≡ [] → ⊥
+unfolding path-list
+some-names p zero j ne e = ne refl
+some-names p (suc n) j ne e = let q : _≡_ {A = ℕ} 0 1 = cc in absurd (omega arith)
+
+module _ (p l h t : List ℕ) (x : ℕ) (v : Value) (h₁ t₁ : List ℕ) (m : Evaluates p l h t x v h₁ t₁) (j n : ℕ) where
+  abbrev value : Produced Memories
+  value = evaluate word-store (strings p l) (self-held h) (program-held h) (trees.expression-held p x) (store-held h t)
+
+  size : length h₁ ≡ 16384
+  size = m .leaves .sized .size
+
+  after : state-of p h₁ t₁ ≡ over-store (state-of p h t) (store-held h₁ t₁)
+  after = kept-state (remaining p) t t₁ (m .leaves .header)
+
+  pub sets-self : n ≡ 0 → (h₂ : List ℕ) → h₂ ≡ set-self h₁ v → Assigns p l h t (from-self (path-list p n j)) x h₂ t₁
+  unfolding commit-assign state-held
+  sets-self e h₂ eh = rw (eh, no-names p n j e) (record {
+    state = λ rest. ap (with-remaining rest) (held-after (remaining p) h₁ t₁ size .self v (m .fits) ∙ ap (with-self v) after) ∙ rw (m .produced);
+    header = stays-both p (kept-stays p (m .leaves .header)) (self-stays p h₁ size v);
+    size = self-size p h₁ size v;
+    text-size = m .leaves .text-size;
+  })
+
+  pub sets-program : n ≡ 0 → (h₂ : List ℕ) → h₂ ≡ set-program h₁ v → Assigns p l h t (from-program (path-list p n j)) x h₂ t₁
+  unfolding commit-assign state-held
+  sets-program e h₂ eh = rw (eh, no-names p n j e) (record {
+    state = λ rest. ap (with-remaining rest) (held-after (remaining p) h₁ t₁ size .program v (m .fits) ∙ ap (with-program v) after) ∙ rw (m .produced);
+    header = stays-both p (kept-stays p (m .leaves .header)) (program-stays p h₁ size v);
+    size = program-size p h₁ size v;
+    text-size = m .leaves .text-size;
+  })
+
+  module _ (ne : n ≡ 0 → ⊥) (root : Value) (h₂ : List ℕ) (eh : h₂ ≡ put-along p h₁ root j n v) where
+    abbrev where-to : Result Target
+    where-to = target-along (frames-held h₁) root (path-held p j n)
+
+    eh′ : h₂ ≡ put-at h₁ where-to v
+    unfolding put-along
+    eh′ = eh
+
+    kept : HeaderKept h₁ h₂
+    kept = rw eh′ (put-header h₁ t₁ size where-to v)
+
+    stored : store-held h₂ t₁ ≡ assign-at word-store (target-along (heap-in word-store (store-held h₁ t₁) .frames) root (path-list p n j)) v (store-held h₁ t₁)
+    stored = rw (eh′, frames-are h₁ t₁, same-path p j n) (put-store h₁ t₁ size where-to v)
+
+    moved : state-of p h₂ t₁ ≡ over-store (state-of p h t) (store-held h₂ t₁)
+    moved = kept-state (remaining p) t₁ t₁ kept ∙ ap (λ (b : Bounded Memories). over-store b (store-held h₂ t₁)) after
+
+    go-self : root ≡ self-held h → (rest : Code Path) →
+        with-remaining rest (over-store (state-of p h t) (store-held h₂ t₁)) ≡ commit-assign word-store (state-of p h t) rest (from-self (path-list p n j)) value
+    unfolding state-held
+    go-self er rest =
+        rw (along-self (state-of p h t) rest (path-list p n j) value (some-names p n j ne), m .produced)
+        (ap (λ (s : Memories). goes-on word-store (state-of p h t) rest (self-held h) (program-held h) s) (rw er at stored))
+
+    go-program : root ≡ program-held h → (rest : Code Path) →
+        with-remaining rest (over-store (state-of p h t) (store-held h₂ t₁)) ≡ commit-assign word-store (state-of p h t) rest (from-program (path-list p n j)) value
+    unfolding state-held
+    go-program er rest =
+        rw (along-program (state-of p h t) rest (path-list p n j) value (some-names p n j ne), m .produced)
+        (ap (λ (s : Memories). goes-on word-store (state-of p h t) rest (self-held h) (program-held h) s) (rw er at stored))
+
+    pub puts-self : root ≡ self-held h → Assigns p l h t (from-self (path-list p n j)) x h₂ t₁
+    puts-self er = record {
+      state = λ rest. ap (with-remaining rest) moved ∙ go-self er rest;
+      header = stays-both p (kept-stays p (m .leaves .header)) (kept-stays p kept);
+      size = ap length eh′ ∙ put-size h₁ t₁ size where-to v;
+      text-size = m .leaves .text-size;
+    }
+
+    pub puts-program : root ≡ program-held h → Assigns p l h t (from-program (path-list p n j)) x h₂ t₁
+    puts-program er = record {
+      state = λ rest. ap (with-remaining rest) moved ∙ go-program er rest;
+      header = stays-both p (kept-stays p (m .leaves .header)) (kept-stays p kept);
+      size = ap length eh′ ∙ put-size h₁ t₁ size where-to v;
+      text-size = m .leaves .text-size;
+    }
+
+-- ---- first_place
+
+pub place-none : (p : List ℕ) (k c : ℕ) → c ≡ codes p → c ≤ k → 0 ≡ first-place p k
+unfolding first-place
+place-none p k c ec le = rw (← ec, le-leb c k le)
+
+pub place-there : (p : List ℕ) (k c r : ℕ) → c ≡ codes p → k < c → r ≡ code-first p k → r ≡ first-place p k
+unfolding first-place
+place-there p k c r ec lt er = rw (← ec, lt-leb c k lt) er
+
+list-past : {A : Type 0} (f : ℕ → A) (d : A) (n i k : ℕ) → n ≤ k → getD (list-from f n i) k d ≡ d
+unfolding list-from
+list-past f d zero i k le = refl
+list-past f d (suc n) i zero le = absurd (omega arith)
+list-past f d (suc n) i (suc k) le = list-past f d n _ k (omega arith)
+
+-- ---- jump
+
+module _ (p l h : List ℕ) (a c : ℕ) (can : CanJump p l h a c) where
+  one : OneLevel p l
+  one = one-level-held p l (can .program)
+
+  G : Sound p
+  G = sound p l (can .program)
+
+  code-at : (k : ℕ) → remaining p (first-place p k) ≡ getD (trees.program-held p l .codes) k Code.finished
+  unfolding first-place trees.program-held
+  code-at k = go (decLe (codes p) k)
+    where
+      go : Dec (codes p ≤ k) → remaining p (first-place p k) ≡ getD (trees.program-held p l .codes) k Code.finished
+      go (yes le) = rw (le-leb (codes p) k le) (one .finished ∙ sym (list-past (λ k. remaining p (code-first p k)) Code.finished (codes p) 0 k le))
+      go (no lt) = rw (lt-leb (codes p) k (omega arith)) (sym (one .code k (omega arith)))
+
+  place-small : (k : ℕ) → first-place p k ≤ instructions p
+  unfolding first-place
+  place-small k = go (decLe (codes p) k)
+    where
+      first : k < codes p → (z : ℕ) → code-first p k ≡ z → z ≤ instructions p
+      first lt zero e = omega arith
+      first lt (suc i) e = let q = G .first-there k i lt e in omega arith
+
+      go : Dec (codes p ≤ k) → first-place p k ≤ instructions p
+      go (yes le) = rw (le-leb (codes p) k le) (omega arith)
+      go (no lt) = rw (lt-leb (codes p) k (omega arith)) (first (omega arith) (code-first p k) refl)
+
+  abbrev result : List ℕ → Result Jump
+  result t = jump-result (trees.program-held p l .codes) (self-held h) (program-held h) (heap-in word-store (store-held h t) .frames) (trees.base-held p a) (trees.base-held p c)
+
+  read : (t : List ℕ) → result t ≡
+      M._>>=_ (operand-value p h a) (λ v. M._>>=_ (code-of (trees.program-held p l .codes) v) (λ is. M._>>=_ (operand-value p h c) (λ w. gives (record { code = is; self = w }))))
+  unfolding jump-result operand-value
+  read t = rw (frames-are h t)
+
+  nothing : ((t : List ℕ) → state-of p h t ≡ commit-jump word-store (state-of p h t) (result t)) → Jumps p l h a c h
+  nothing e = record { state = e; header = record { formed = λ m q o. o }; size = can .size }
+
+  module _ (r : Fetched) (er : defined (fetched r) ≡ operand-value p h a) where
+    pub jump-none : r ≡ Fetched.Undefined → Jumps p l h a c h
+    unfolding commit-jump M._>>=_ defined
+    jump-none e = nothing (λ t. rw (read t, ← er, e))
+
+    module _ (v : Value) (ev : r ≡ Fetched.Found v) where
+      pub jump-no-code : OneOf (0 ∷ 1 ∷ 3 ∷ []) (tagOf the-type v) → Jumps p l h a c h
+      unfolding commit-jump M._>>=_ defined code-of
+      jump-no-code o = nothing (λ t. rw (read t, ← er, ev) (go t v o))
+        where
+          go : (t : List ℕ) (v : Value) → OneOf (0 ∷ 1 ∷ 3 ∷ []) (tagOf the-type v) →
+              state-of p h t ≡ commit-jump word-store (state-of p h t) (M._>>=_ (code-of (trees.program-held p l .codes) v) (λ is. M._>>=_ (operand-value p h c) (λ w. gives (record { code = is; self = w }))))
+          go t (Value.Int z) k = refl
+          go t (Value.Text z) k = refl
+          go t (Value.Code z) k = absurd (miss (0 ∷ 1 ∷ 3 ∷ []) 2 tt k)
+          go t (Value.Frame z) k = refl
+
+      module _ (k : ℕ) (ek : v ≡ Value.Code k) (q : Fetched) (eq : defined (fetched q) ≡ operand-value p h c) where
+        pub jump-second : q ≡ Fetched.Undefined → Jumps p l h a c h
+        unfolding commit-jump M._>>=_ defined code-of
+        jump-second e = nothing (λ t. rw (read t, ← er, ev, ek, ← eq, e))
+
+        module _ (w : Value) (ew : q ≡ Fetched.Found w) where
+          is-given : gives w ≡ operand-value p h c
+          unfolding defined
+          is-given = rw ew at eq
+
+          fits : ValueFits w
+          unfolding value-given
+          fits = rw (← is-given) at (operand-fits p l h (can .program) c (can .second))
+
+          pub jump-both : (h₁ h₂ : List ℕ) (z : ℕ) → h₁ ≡ set-self h w → h₂ ≡ set-position h₁ z → z ≡ first-place p k → Jumps p l h a c h₂
+          unfolding commit-jump M._>>=_ defined code-of state-held
+          jump-both h₁ h₂ z e₁ e₂ ez = rw (e₂, e₁, ez) (record {
+            state = λ t.
+                held-after (remaining p) (set-self h w) t (self-size p h (can .size) w) .position (first-place p k)
+                ∙ ap (with-remaining (remaining p (first-place p k))) (held-after (remaining p) h t (can .size) .self w fits)
+                ∙ rw (read t, ← er, ev, ek, ← is-given, code-at k);
+            header = stays-both p (self-stays p h (can .size) w) (position-stays p (set-self h w) (self-size p h (can .size) w) (first-place p k) (place-small k));
+            size = position-size p (set-self h w) (self-size p h (can .size) w) (first-place p k);
+          })
+
+-- ---- Instructions
+
+module _ (p l h t : List ℕ) (i : ℕ) (can : CanCommit p l h t i) where
+  size-is : length h ≡ 16384
+  size-is = can .writable .sized .size
+
+  after-small : instruction-after p i ≤ instructions p
+  after-small = go (instruction-after p i) refl
+    where
+      go : (z : ℕ) → instruction-after p i ≡ z → z ≤ instructions p
+      go zero e = omega arith
+      go (suc k) e = let q = sound p l (can .writable .program) .next-there i k (can .there) e in omega arith
+
+  -- nothing but the position
+  onward : (h₂ : List ℕ) → h₂ ≡ set-position h (instruction-after p i) →
+      with-remaining (remaining p (instruction-after p i)) (state-of p h t)
+      ≡ commit word-store (trees.program-held p l) (state-of p h t) (remaining p (instruction-after p i)) (trees.instruction-held p i) → Commits p l h t i h₂ t
+  onward h₂ eh q = rw eh (record {
+    state = held-after (remaining p) h t size-is .position (instruction-after p i) ∙ q;
+    header = position-stays p h size-is (instruction-after p i) after-small;
+    size = position-size p h size-is (instruction-after p i);
+    text-size = can .writable .text-size;
+  })
+
+  module _ (e : InstructionEntry) (ee : e ≡ instruction-at p i) where
+    form : InstructionForm p i
+    form = can .writable .program .entries .instruction i (can .there)
+
+    -- assign
+    module _ (path : Path) (x : ℕ) (tree : trees.instruction-held p i ≡ Instruction.assign path (trees.expression-held p x)) (there : x < expressions p) where
+      can-assign : CanEvaluate p l h t x
+      unfolding right-side
+      can-assign = record { writable = can .writable; there = there; room = rw tree at (can .room) }
+
+      done-assign : (h₁ t₁ h₂ : List ℕ) → Assigns p l h t path x h₁ t₁ → h₂ ≡ set-position h₁ (instruction-after p i) → Commits p l h t i h₂ t₁
+      unfolding commit state-held
+      done-assign h₁ t₁ h₂ a eh = rw eh (record {
+        state = held-after (remaining p) h₁ t₁ (a .size) .position (instruction-after p i) ∙ a .state (remaining p (instruction-after p i)) ∙ rw tree;
+        header = stays-both p (a .header) (position-stays p h₁ (a .size) (instruction-after p i) after-small);
+        size = position-size p h₁ (a .size) (instruction-after p i);
+        text-size = a .text-size;
+      })
+
+    module _ (j n x : ℕ) (is : e ≡ InstructionEntry.AssignSelf j n x) where
+      self-tree : trees.instruction-held p i ≡ Instruction.assign (from-self (path-list p n j)) (trees.expression-held p x)
+      self-tree = assign-self-held p l (can .writable .program) i (can .there) j n x (sym ee ∙ is)
+
+      pub commit-can-self : CanEvaluate p l h t x
+      commit-can-self = can-assign _ x self-tree (form .self-there j n x (sym ee ∙ is))
+
+      pub commit-self : (h₁ t₁ h₂ : List ℕ) → Assigns p l h t (from-self (path-list p n j)) x h₁ t₁ → h₂ ≡ set-position h₁ (instruction-after p i) → Commits p l h t i h₂ t₁
+      commit-self = done-assign _ x self-tree (form .self-there j n x (sym ee ∙ is))
+
+    module _ (j n x : ℕ) (is : e ≡ InstructionEntry.AssignProgram j n x) where
+      program-tree : trees.instruction-held p i ≡ Instruction.assign (from-program (path-list p n j)) (trees.expression-held p x)
+      program-tree = assign-program-held p l (can .writable .program) i (can .there) j n x (sym ee ∙ is)
+
+      pub commit-can-program : CanEvaluate p l h t x
+      commit-can-program = can-assign _ x program-tree (form .program-there j n x (sym ee ∙ is))
+
+      pub commit-program : (h₁ t₁ h₂ : List ℕ) → Assigns p l h t (from-program (path-list p n j)) x h₁ t₁ → h₂ ≡ set-position h₁ (instruction-after p i) → Commits p l h t i h₂ t₁
+      commit-program = done-assign _ x program-tree (form .program-there j n x (sym ee ∙ is))
+
+    pub commit-show : (a : ℕ) (h₂ : List ℕ) → e ≡ InstructionEntry.Show a → h₂ ≡ set-position h (instruction-after p i) → Commits p l h t i h₂ t
+    unfolding commit state-held
+    commit-show a h₂ is eh = onward h₂ eh (rw (show-held p l (can .writable .program) i (can .there) a (sym ee ∙ is)))
+
+    pub commit-bad : (h₂ : List ℕ) → e ≡ InstructionEntry.Bad → Commits p l h t i h₂ t
+    commit-bad h₂ is = absurd (form .formed (sym ee ∙ is))
+
+    module _ (a c : ℕ) (is : e ≡ InstructionEntry.Jump a c) where
+      pub commit-can-jump : CanJump p l h a c
+      commit-can-jump = record { program = can .writable .program; size = size-is; first = form .jump-to a c (sym ee ∙ is) .there; second = form .jump-with a c (sym ee ∙ is) .there }
+
+      pub commit-jumps : (h₂ : List ℕ) → Jumps p l h a c h₂ → Commits p l h t i h₂ t
+      unfolding commit state-held
+      commit-jumps h₂ k = record {
+        state = k .state t ∙ rw (jump-held p l (can .writable .program) i (can .there) a c (sym ee ∙ is));
+        header = k .header;
+        size = k .size;
+        text-size = can .writable .text-size;
+      }
+
+    module _ (a c d : ℕ) (is : e ≡ InstructionEntry.Ifeq a c d) where
+      ifeq-tree : trees.instruction-held p i ≡ Instruction.ifeq (trees.base-held p a) (trees.base-held p c) (trees.base-held p d)
+      ifeq-tree = ifeq-held p l (can .writable .program) i (can .there) a c d (sym ee ∙ is)
+
+      pub commit-can-ifeq : CanJump p l h c d
+      commit-can-ifeq = record { program = can .writable .program; size = size-is; first = form .ifeq-to a c d (sym ee ∙ is) .there; second = form .ifeq-with a c d (sym ee ∙ is) .there }
+
+      module _ (v : Value) (ev : v ≡ value-given (operand-value p h a)) (b : Bool) (eb : b ≡ truth v) where
+        tested : b ≡ truth (value-given (base-value (self-held h) (program-held h) (heap-in word-store (store-held h t) .frames) (trees.base-held p a)))
+        unfolding operand-value
+        tested = eb ∙ rw (ev, frames-are h t)
+
+        pub commit-ifeq-on : b ≡ true → (h₂ : List ℕ) → h₂ ≡ set-position h (instruction-after p i) → Commits p l h t i h₂ t
+        unfolding commit state-held
+        commit-ifeq-on q h₂ eh = onward h₂ eh (rw (ifeq-tree, ← tested, q))
+
+        pub commit-ifeq-jumps : b ≡ false → (h₂ : List ℕ) → Jumps p l h c d h₂ → Commits p l h t i h₂ t
+        unfolding commit state-held
+        commit-ifeq-jumps q h₂ k = record {
+          state = k .state t ∙ rw (ifeq-tree, ← tested, q);
+          header = k .header;
+          size = k .size;
+          text-size = can .writable .text-size;
+        }

@@ -1,0 +1,27 @@
+use Rattle.commit.proofs.Laws.{place-none, place-there}
+use borrow.Author.Needs.{needs}
+use Rattle.commit.proofs.first_place.Statement.{statement}
+use Rattle.commit.proofs.first_place.Tie as tie
+use Rattle.commit.proofs.first_place.Reads as reads
+use Rattle.commit.proofs.first_place.Lts as lts
+use Rattle.tables.proofs.code_first.Reads as code-first-reads
+use Rattle.tables.proofs.codes.Reads as codes-reads
+
+-- src/lib.rt:54:8
+codes-requires : tie.Need-codes-requires
+codes-requires c κs = search needs
+
+-- src/lib.rt:55:9
+returns : tie.Need-returns
+returns c = search place-none
+
+-- src/lib.rt:57:5
+code-first-requires : tie.Need-code-first-requires
+code-first-requires c κs = search needs
+
+-- src/lib.rt:51:1
+returns-2 : tie.Need-returns-2
+returns-2 c = search place-there
+
+pub first-place-spec : {M : Type 1} → statement M
+first-place-spec = tie.close (tie.spec codes-requires returns code-first-requires returns-2)

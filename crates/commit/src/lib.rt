@@ -1,0 +1,112 @@
+// Commit: what an instruction does to the memories, after reserve and check. It cannot fail: where check has met an end nothing or integer 0 is written.
+use framed::Value;
+use paths::Fetched;
+use puts::PutTarget;
+use tables::InstructionEntry;
+ghost use mathlib.Core.Path.{_≡_};
+ghost use Rattle.framed.specs.Paths.{from-self, from-program};
+ghost use Rattle.trees.specs.Trees.{path-list};
+ghost use Rattle.evaluation.specs.Evaluation.{CanEvaluate};
+ghost use Rattle.commit.specs.Commit.{put-along, first-place, Assigns, CanJump, Jumps, CanCommit, Commits};
+ghost use Rattle.heap.specs.Words.{set-position};
+ghost use Rattle.tables.specs.Fields.{instruction-after};
+
+// Put along the n path names from j on; nothing where no rule applies.
+pub fn put(p: &[u32], h: &mut [u32], root: Value, j: u32, n: u32, v: Value)
+    ensures { λ _. ⌜ now (h .exit) ≡ put-along (now (p .entry)) (now (h .entry)) root j n v ⌝ }
+{
+    let PutTarget::At(f, name) = puts::put_target(p, h, root, j, n) else {
+        return;
+    };
+    puts::put_slot(h, f, name, v);
+}
+
+// The value of the expression, then Put from the old self; an empty path sets self.
+pub fn assign_self(p: &[u32], l: &[u8], h: &mut [u32], t: &mut [u8], j: u32, n: u32, x: u32)
+    requires { ⌜ CanEvaluate (now p) (now l) (now h) (now t) x ⌝ }
+    ensures { λ _. ⌜ Assigns (now (p .entry)) (now (l .entry)) (now (h .entry)) (now (t .entry)) (from-self (path-list (now (p .entry)) n j)) x (now (h .exit)) (now (t .exit)) ⌝ }
+{
+    let root = heap::self_value(h);
+    let v = evaluation::evaluate(p, l, h, t, x);
+    if n == 0 {
+        heap::set_self(h, v);
+        return;
+    }
+    put(p, h, root, j, n, v);
+}
+
+// The same from the old program; an empty path sets program.
+pub fn assign_program(p: &[u32], l: &[u8], h: &mut [u32], t: &mut [u8], j: u32, n: u32, x: u32)
+    requires { ⌜ CanEvaluate (now p) (now l) (now h) (now t) x ⌝ }
+    ensures { λ _. ⌜ Assigns (now (p .entry)) (now (l .entry)) (now (h .entry)) (now (t .entry)) (from-program (path-list (now (p .entry)) n j)) x (now (h .exit)) (now (t .exit)) ⌝ }
+{
+    let from = heap::program_value(h);
+    let v = evaluation::evaluate(p, l, h, t, x);
+    if n == 0 {
+        heap::set_program(h, v);
+        return;
+    }
+    put(p, h, from, j, n, v);
+}
+
+// The place of the first instruction of code k, none where there is no such code.
+pub fn first_place(p: &[u32], k: u32) -> u32
+    ensures { λ r. ⌜ r ≡ first-place (now (p .entry)) k ⌝ }
+{
+    if tables::codes(p) <= k {
+        return 0;
+    }
+    tables::code_first(p, k)
+}
+
+// The first operand's code replaces the rest, and self becomes the second operand.
+pub fn jump(p: &[u32], l: &[u8], h: &mut [u32], a: u32, c: u32)
+    requires { ⌜ CanJump (now p) (now l) (now h) a c ⌝ }
+    ensures { λ _. ⌜ Jumps (now (p .entry)) (now (l .entry)) (now (h .entry)) a c (now (h .exit)) ⌝ }
+{
+    let Fetched::Found(v) = operands::operand(p, h, a) else {
+        return;
+    };
+    let Value::Code(k) = v else {
+        return;
+    };
+    let Fetched::Found(w) = operands::operand(p, h, c) else {
+        return;
+    };
+    heap::set_self(h, w);
+    heap::set_position(h, first_place(p, k));
+}
+
+// On to the instruction after instruction i.
+pub fn go_on(p: &[u32], h: &mut [u32], i: u32)
+    ensures { λ _. ⌜ now (h .exit) ≡ set-position (now (h .entry)) (instruction-after (now (p .entry)) i) ⌝ }
+{
+    heap::set_position(h, tables::instruction_after(p, i));
+}
+
+// What instruction i does.
+pub fn commit(p: &[u32], l: &[u8], h: &mut [u32], t: &mut [u8], i: u32)
+    requires { ⌜ CanCommit (now p) (now l) (now h) (now t) i ⌝ }
+    ensures { λ _. ⌜ Commits (now (p .entry)) (now (l .entry)) (now (h .entry)) (now (t .entry)) i (now (h .exit)) (now (t .exit)) ⌝ }
+{
+    match tables::instruction_at(p, i) {
+        InstructionEntry::AssignSelf(j, n, x) => {
+            assign_self(p, l, h, t, j, n, x);
+            go_on(p, h, i);
+        }
+        InstructionEntry::AssignProgram(j, n, x) => {
+            assign_program(p, l, h, t, j, n, x);
+            go_on(p, h, i);
+        }
+        InstructionEntry::Show(_) => go_on(p, h, i),
+        InstructionEntry::Jump(a, c) => jump(p, l, h, a, c),
+        InstructionEntry::Ifeq(a, c, d) => {
+            if texts::truth(producing::given(p, h, a)) {
+                go_on(p, h, i);
+                return;
+            }
+            jump(p, l, h, c, d);
+        }
+        InstructionEntry::Bad => go_on(p, h, i),
+    }
+}
