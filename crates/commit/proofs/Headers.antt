@@ -27,12 +27,10 @@ use Rattle.word_store.specs.State.{store-held, state-held, HeldAfter, HeaderFor
 use Rattle.word_store.proofs.Updates.{KeepsHeader, keeps-all, keeps-put, held-after, header-after}
 use Rattle.producing.specs.Producing.{HeaderKept}
 use Rattle.producing.proofs.Leaves.{header-kept}
+use Rattle.evaluation.proofs.Stores.{as-same}
 use Rattle.commit.specs.Commit.{put-at, HeaderStays}
 
 -- ---- Under the same header
-
-as-same : {h h′ : List ℕ} → HeaderKept h h′ → Same 0 6 h h′
-as-same k = record { agree = λ j lo hi. k .agree j hi }
 
 module _ (remaining-from : ℕ → Code Path) {h h′ : List ℕ} (t t′ : List ℕ) (k : HeaderKept h h′) where
   pub kept-state : state-held remaining-from h′ t′ ≡ over-store (state-held remaining-from h t) (store-held h′ t′)

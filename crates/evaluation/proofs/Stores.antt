@@ -53,7 +53,7 @@ module _ (h t : List ℕ) where
 
 -- ---- The header
 
-as-same : {h h′ : List ℕ} → HeaderKept h h′ → Same 0 6 h h′
+pub as-same : {h h′ : List ℕ} → HeaderKept h h′ → Same 0 6 h h′
 as-same k = record { agree = λ j lo hi. k .agree j hi }
 
 pub self-kept : {h h′ : List ℕ} → HeaderKept h h′ → self-held h′ ≡ self-held h

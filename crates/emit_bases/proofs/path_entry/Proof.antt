@@ -1,0 +1,17 @@
+use Rattle.emit_bases.proofs.Laws.{entry-self, entry-program}
+use borrow.Author.Needs.{needs}
+use Rattle.emit_bases.proofs.path_entry.Statement.{statement}
+use Rattle.emit_bases.proofs.path_entry.Tie as tie
+use Rattle.emit_bases.proofs.path_entry.Reads as reads
+use Rattle.emit_bases.proofs.path_entry.Lts as lts
+
+-- src/lib.rt:15:9
+returns : tie.Need-returns
+returns c = search entry-self
+
+-- src/lib.rt:11:1
+returns-2 : tie.Need-returns-2
+returns-2 c = search entry-program
+
+pub path-entry-spec : {M : Type 1} → statement M
+path-entry-spec = tie.close (tie.spec returns returns-2)

@@ -1,0 +1,130 @@
+// The names of a source: kept by first appearance, the number of each, and the name table written into program words.
+ghost use mathlib.Core.Path.{_≡_};
+ghost use Rattle.framed.specs.Symbols.{number-in};
+ghost use Rattle.names.specs.Kept.{table-of, Noted};
+ghost use Rattle.sweep.specs.Decides.{Short};
+ghost use Rattle.table_updates.specs.Updates.{set-name-length};
+ghost use Rattle.emission.specs.Emit.{write-name-bytes, write-names};
+ghost use lib.ListN.{length};
+ghost use Rattle.emit_names.specs.Table.{NumberAt, Few, Sized, Kept, write-kept};
+use token::TokenRead;
+use words::wide;
+
+// The number of a word among the first n names kept; n where it is none of them.
+pub fn number_of(s: &[u8], begins: &[usize], ends: &[usize], n: u32, w: &[u8]) -> u32
+    ensures { λ r. ⌜ r ≡ number-in (table-of (now (s .entry)) (now (begins .entry)) (now (ends .entry)) n) (now (w .entry)) ⌝ }
+{
+    let mut k = 0;
+    while k < n {
+        let a = names::place(begins, wide(k));
+        let p = names::place(ends, wide(k));
+        let v = token::token_bytes(s, a, p);
+        if lexeme::is_word(v, w) {
+            return k;
+        }
+        k += 1;
+    }
+    n
+}
+
+// The number of the name that stands at a position.
+pub fn name_at(s: &[u8], begins: &[usize], ends: &[usize], n: u32, at: usize) -> u32
+    ensures { λ r. ⌜ NumberAt (now (s .entry)) (now (begins .entry)) (now (ends .entry)) n at r ⌝ }
+{
+    let t = token::token_at(s, at);
+    let TokenRead::Token(_k, a, p, _w) = t else {
+        return 0;
+    };
+    let w = token::token_bytes(s, a, p);
+    number_of(s, begins, ends, n, w)
+}
+
+// Keeps a token of kind k where it is a new name: how many are kept after it.
+fn keep(
+    s: &[u8],
+    begins: &mut [usize],
+    ends: &mut [usize],
+    n: u32,
+    k: u32,
+    a: usize,
+    p: usize,
+) -> u32
+    requires { ⌜ Few n ⌝ }
+    ensures { λ r. ⌜ Noted (now (s .entry)) (now (begins .entry)) (now (ends .entry)) n k a p (now (begins .exit)) (now (ends .exit)) r ⌝ }
+{
+    if k != 25 {
+        return n;
+    }
+    if names::known(s, begins, ends, wide(n), a, p) {
+        return n;
+    }
+    names::set_place(begins, wide(n), a);
+    names::set_place(ends, wide(n), p);
+    n + 1
+}
+
+// Keeps the names of the source by first appearance, at most 128: how many there are.
+pub fn keep_names(s: &[u8], begins: &mut [usize], ends: &mut [usize]) -> u32
+    requires { ⌜ Sized (now begins) (now ends) ⌝ }
+    ensures { λ r. ⌜ Kept (now (s .entry)) (now (begins .exit)) (now (ends .exit)) r ⌝ }
+{
+    let mut n = 0;
+    let mut at = 0;
+    while at < s.len() {
+        let t = token::token_at(s, at);
+        let TokenRead::Token(k, a, p, _w) = t else {
+            return n;
+        };
+        n = keep(s, begins, ends, n, k, a, p);
+        if 128 < n {
+            return n;
+        }
+        at = p;
+    }
+    n
+}
+
+// The bytes of name k.
+fn write_bytes(p: &mut [u32], k: u32, w: &[u8])
+    requires { ⌜ Short (now w) ⌝ }
+    ensures { λ _. ⌜ now (p .exit) ≡ write-name-bytes (now (w .entry)) k 0 (now (p .entry)) ⌝ }
+{
+    let mut i = 0;
+    while i < w.len() {
+        let b = words::byte(w, i);
+        words::set_word(p, 65 + 17 * wide(k) + i, b as u32);
+        i += 1;
+    }
+}
+
+// Name k: its bytes and its length.
+fn write_name(p: &mut [u32], k: u32, w: &[u8])
+    requires { ⌜ Short (now w) ⌝ }
+    ensures { λ _. ⌜ now (p .exit) ≡ set-name-length (write-name-bytes (now (w .entry)) k 0 (now (p .entry))) k (length (now (w .entry))) ⌝ }
+{
+    write_bytes(p, k, w);
+    table_updates::set_name_length(p, k, w.len() as u32);
+}
+
+// Name k of the names kept.
+fn write_kept(s: &[u8], begins: &[usize], ends: &[usize], k: u32, p: &mut [u32])
+    requires { ⌜ Short (now s) ⌝ }
+    ensures { λ _. ⌜ now (p .exit) ≡ write-kept (now (s .entry)) (now (begins .entry)) (now (ends .entry)) k (now (p .entry)) ⌝ }
+{
+    let a = names::place(begins, wide(k));
+    let q = names::place(ends, wide(k));
+    let w = token::token_bytes(s, a, q);
+    write_name(p, k, w);
+}
+
+// The names kept.
+pub fn write_names(s: &[u8], begins: &[usize], ends: &[usize], n: u32, p: &mut [u32])
+    requires { ⌜ Short (now s) ⌝ }
+    ensures { λ _. ⌜ now (p .exit) ≡ write-names (table-of (now (s .entry)) (now (begins .entry)) (now (ends .entry)) n) 0 (now (p .entry)) ⌝ }
+{
+    let mut k = 0;
+    while k < n {
+        write_kept(s, begins, ends, k, p);
+        k += 1;
+    }
+}

@@ -1,0 +1,120 @@
+// The path names of a path of the source, resolved, written into program words.
+ghost use Rattle.names.specs.Kept.{table-of};
+ghost use Rattle.emission.specs.Emit.{emit-path};
+ghost use Rattle.emit_paths.specs.Emits.{Emits, NamesHere, UpsRead, HolderDone, UpHere, PathHere, path-emitted};
+use emit_steps::Next;
+use emit_steps::Place;
+use words::wide;
+
+// The names after dots, as path names.
+pub fn dotted(
+    s: &[u8],
+    begins: &[usize],
+    ends: &[usize],
+    count: u32,
+    p: &mut [u32],
+    n: Next,
+) -> Next
+    ensures { λ r. ⌜ Emits NamesHere emit-path (now (s .entry)) (table-of (now (s .entry)) (now (begins .entry)) (now (ends .entry)) count) n (now (p .entry)) (now (p .exit)) r ⌝ }
+{
+    let mut m = n;
+    let mut at = n.at;
+    while at < s.len() {
+        let q = emit_steps::pass(s, at, 7);
+        if q <= at {
+            return m;
+        }
+        let u = emit_steps::pass(s, q, 25);
+        if u <= q {
+            return m;
+        }
+        let k = emit_names::name_at(s, begins, ends, count, q);
+        table_updates::set_path_name(p, m.paths, k);
+        m = emit_steps::one_path_name(m, u);
+        at = u;
+    }
+    m
+}
+
+// Where further `^` end, and how many levels of a place they leave.
+pub struct Levels {
+    pub at: usize,
+    pub levels: u32,
+}
+
+// Further `^`, each after a dot.
+pub fn ups(s: &[u8], from: usize, depth: u32) -> Levels
+    ensures { λ r. ⌜ UpsRead (now (s .entry)) from depth r ⌝ }
+{
+    let mut at = from;
+    let mut d = depth;
+    while at < s.len() {
+        let q = emit_steps::pass_two(s, at, 7, 8);
+        if q <= at {
+            return Levels { at: at, levels: d };
+        }
+        d = emit_steps::less(d, 1);
+        at = q;
+    }
+    Levels { at: at, levels: d }
+}
+
+// The first names of a place, as path names.
+pub fn holder(p: &mut [u32], place: Place, levels: u32, n: Next) -> Next
+    ensures { λ r. ⌜ HolderDone (place .names) levels n (now (p .entry)) (now (p .exit)) r ⌝ }
+{
+    let names = place.names;
+    let mut m = n;
+    let mut i = 0;
+    while i < levels {
+        if 16 <= i {
+            return m;
+        }
+        let j = wide(i);
+        let v = names[j];
+        table_updates::set_path_name(p, m.paths, v);
+        let at = m.at;
+        m = emit_steps::one_path_name(m, at);
+        i += 1;
+    }
+    m
+}
+
+// A path that begins with `^`, resolved.
+fn up_path(
+    s: &[u8],
+    begins: &[usize],
+    ends: &[usize],
+    count: u32,
+    p: &mut [u32],
+    place: Place,
+    n: Next,
+) -> Next
+    ensures { λ r. ⌜ Emits (UpHere place) (path-emitted place) (now (s .entry)) (table-of (now (s .entry)) (now (begins .entry)) (now (ends .entry)) count) n (now (p .entry)) (now (p .exit)) r ⌝ }
+{
+    let q = emit_steps::pass(s, n.at, 8);
+    let u = ups(s, q, place.depth);
+    let k = emit_steps::go_to(n, u.at);
+    let m = holder(p, place, u.levels, k);
+    dotted(s, begins, ends, count, p, m)
+}
+
+// A path, resolved.
+pub fn emit_path(
+    s: &[u8],
+    begins: &[usize],
+    ends: &[usize],
+    count: u32,
+    p: &mut [u32],
+    place: Place,
+    n: Next,
+) -> Next
+    ensures { λ r. ⌜ Emits (PathHere place) (path-emitted place) (now (s .entry)) (table-of (now (s .entry)) (now (begins .entry)) (now (ends .entry)) count) n (now (p .entry)) (now (p .exit)) r ⌝ }
+{
+    let q = emit_steps::pass(s, n.at, 1);
+    if q <= n.at {
+        return up_path(s, begins, ends, count, p, place, n);
+    }
+    let m = emit_steps::go_to(n, q);
+    dotted(s, begins, ends, count, p, m)
+}

@@ -1,0 +1,30 @@
+use Rattle.emit_steps.proofs.Laws.{pass-none, pass-one, pass-other}
+use borrow.Author.Needs.{needs}
+use Rattle.emit_steps.proofs.pass.Statement.{statement}
+use Rattle.emit_steps.proofs.pass.Tie as tie
+use Rattle.emit_steps.proofs.pass.Reads as reads
+use Rattle.emit_steps.proofs.pass.Lts as lts
+use Rattle.token.proofs.token_at.Reads as token-at-reads
+
+-- src/lib.rt:166:9
+token-at-requires : tie.Need-token-at-requires
+token-at-requires c κs = search needs
+
+-- src/lib.rt:167:26
+enum-known-t : tie.Need-enum-known-t
+enum-known-t c = search needs
+
+-- src/lib.rt:168:9
+returns : tie.Need-returns
+returns c = search pass-none
+
+-- src/lib.rt:171:9
+returns-2 : tie.Need-returns-2
+returns-2 c = search pass-one
+
+-- src/lib.rt:163:1
+returns-3 : tie.Need-returns-3
+returns-3 c = search pass-other
+
+pub pass-spec : {M : Type 1} → statement M
+pass-spec = tie.close (tie.spec token-at-requires enum-known-t returns returns-2 returns-3)
