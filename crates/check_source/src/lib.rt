@@ -51,20 +51,21 @@ fn meaning_refusal(s: &[u8], f: u32) -> u32
     requires { ⌜ Short (now s) ⌝ }
     ensures { λ r. ⌜ Means (now (s .entry)) f r ⌝ }
 {
-    if limits::outside_code(s) {
+    let t = sums::sum_all(s);
+    if limits::outside_code(s, t) {
         return 7;
     }
     if slots::bad_frame(s) {
         return 8;
     }
-    if limits::above_limit(s) {
+    if limits::above_limit(s, t) {
         return 9;
     }
-    if limits::far_up(s) {
+    if limits::far_up(s, t) {
         return 10;
     }
     if start::has_start(s) {
-        if limits::many_frames(s, f) {
+        if limits::many_frames(s, t, f) {
             return 12;
         }
         return 0;

@@ -26,9 +26,10 @@ use Rattle.trees.specs.Trees.{path-list}
 use Rattle.trees.specs.Held as trees
 use Rattle.trees.specs.Held.{remaining, list-from, OneLevel}
 use Rattle.trees.proofs.Held.{one-level-held, assign-self-held, assign-program-held, show-held, jump-held, ifeq-held}
-use Rattle.heap.specs.Words.{self-held, program-held, set-self, set-program, set-position}
+use Rattle.heap.specs.Words.{self-held, program-held, position, set-self, set-program, set-position}
 use Rattle.heap.specs.Held.{frames-held}
 use Rattle.heap.specs.Closed.{ValueFits}
+use Rattle.heap.proofs.Laws.{set-position-position}
 use Rattle.paths.specs.declared.Fetched.{Fetched}
 use Rattle.puts.specs.declared.PutTarget.{PutTarget}
 use Rattle.paths.specs.Paths.{fetched, path-held}
@@ -44,7 +45,8 @@ use Rattle.producing.specs.Producing.{HeaderKept, Leaves, made}
 use Rattle.evaluation.specs.Evaluation.{strings, CanEvaluate, Evaluates}
 use Rattle.evaluation.proofs.Stores.{frames-are, self-kept, program-kept}
 use Rattle.evaluation.proofs.Fits.{operand-fits}
-use Rattle.commit.specs.Commit.{put-at, put-along, state-of, HeaderStays, Assigns, first-place, CanJump, Jumps, CanCommit, Commits}
+use Rattle.commit.specs.Commit.{put-at, put-along, state-of, HeaderStays, Assigns, first-place, code-place, place-to, jump-place, CanJump, Jumps, position-by, position-after, CanCommit, Commits}
+use Rattle.commit.proofs.Places.{code-at, place-small, after-small}
 use Rattle.commit.proofs.Headers.{kept-state, kept-stays, stays-both, self-stays, program-stays, position-stays, self-size, program-size, position-size, put-store, put-header, put-size}
 
 -- ---- put
@@ -169,41 +171,9 @@ pub place-there : (p : List ℕ) (k c r : ℕ) → c ≡ codes p → k < c → r
 unfolding first-place
 place-there p k c r ec lt er = rw (← ec, lt-leb c k lt) er
 
-list-past : {A : Type 0} (f : ℕ → A) (d : A) (n i k : ℕ) → n ≤ k → getD (list-from f n i) k d ≡ d
-unfolding list-from
-list-past f d zero i k le = refl
-list-past f d (suc n) i zero le = absurd (omega arith)
-list-past f d (suc n) i (suc k) le = list-past f d n _ k (omega arith)
-
 -- ---- jump
 
 module _ (p l h : List ℕ) (a c : ℕ) (can : CanJump p l h a c) where
-  one : OneLevel p l
-  one = one-level-held p l (can .program)
-
-  G : Sound p
-  G = sound p l (can .program)
-
-  code-at : (k : ℕ) → remaining p (first-place p k) ≡ getD (trees.program-held p l .codes) k Code.finished
-  unfolding first-place trees.program-held
-  code-at k = go (decLe (codes p) k)
-    where
-      go : Dec (codes p ≤ k) → remaining p (first-place p k) ≡ getD (trees.program-held p l .codes) k Code.finished
-      go (yes le) = rw (le-leb (codes p) k le) (one .finished ∙ sym (list-past (λ k. remaining p (code-first p k)) Code.finished (codes p) 0 k le))
-      go (no lt) = rw (lt-leb (codes p) k (omega arith)) (sym (one .code k (omega arith)))
-
-  place-small : (k : ℕ) → first-place p k ≤ instructions p
-  unfolding first-place
-  place-small k = go (decLe (codes p) k)
-    where
-      first : k < codes p → (z : ℕ) → code-first p k ≡ z → z ≤ instructions p
-      first lt zero e = omega arith
-      first lt (suc i) e = let q = G .first-there k i lt e in omega arith
-
-      go : Dec (codes p ≤ k) → first-place p k ≤ instructions p
-      go (yes le) = rw (le-leb (codes p) k le) (omega arith)
-      go (no lt) = rw (lt-leb (codes p) k (omega arith)) (first (omega arith) (code-first p k) refl)
-
   abbrev result : List ℕ → Result Jump
   result t = jump-result (trees.program-held p l .codes) (self-held h) (program-held h) (heap-in word-store (store-held h t) .frames) (trees.base-held p a) (trees.base-held p c)
 
@@ -212,19 +182,26 @@ module _ (p l h : List ℕ) (a c : ℕ) (can : CanJump p l h a c) where
   unfolding jump-result operand-value
   read t = rw (frames-are h t)
 
-  nothing : ((t : List ℕ) → state-of p h t ≡ commit-jump word-store (state-of p h t) (result t)) → Jumps p l h a c h
-  nothing e = record { state = e; header = record { formed = λ m q o. o }; size = can .size }
+  nothing : ((t : List ℕ) → state-of p h t ≡ commit-jump word-store (state-of p h t) (result t)) → position h ≡ jump-place p h a c → Jumps p l h a c h
+  nothing e q = record { state = e; position = q; header = record { formed = λ m q o. o }; size = can .size }
 
   module _ (r : Fetched) (er : defined (fetched r) ≡ operand-value p h a) where
     pub jump-none : r ≡ Fetched.Undefined → Jumps p l h a c h
-    unfolding commit-jump M._>>=_ defined
-    jump-none e = nothing (λ t. rw (read t, ← er, e))
+    unfolding commit-jump M._>>=_ defined jump-place place-to
+    jump-none e = nothing (λ t. rw (read t, ← er, e)) (rw (← er, e))
 
     module _ (v : Value) (ev : r ≡ Fetched.Found v) where
       pub jump-no-code : OneOf (0 ∷ 1 ∷ 3 ∷ []) (tagOf the-type v) → Jumps p l h a c h
-      unfolding commit-jump M._>>=_ defined code-of
-      jump-no-code o = nothing (λ t. rw (read t, ← er, ev) (go t v o))
+      unfolding commit-jump M._>>=_ defined code-of jump-place place-to code-place
+      jump-no-code o = nothing (λ t. rw (read t, ← er, ev) (go t v o)) (rw (← er, ev) (stays v o (operand-value p h c)))
         where
+          stays : (v : Value) → OneOf (0 ∷ 1 ∷ 3 ∷ []) (tagOf the-type v) → (r : Result Value) → position h ≡ place-to p (position h) (gives v) r
+          stays (Value.Int z) k (gives w) = refl
+          stays (Value.Text z) k (gives w) = refl
+          stays (Value.Code z) k (gives w) = absurd (miss (0 ∷ 1 ∷ 3 ∷ []) 2 tt k)
+          stays (Value.Frame z) k (gives w) = refl
+          stays v k (ends e) = refl
+
           go : (t : List ℕ) (v : Value) → OneOf (0 ∷ 1 ∷ 3 ∷ []) (tagOf the-type v) →
               state-of p h t ≡ commit-jump word-store (state-of p h t) (M._>>=_ (code-of (trees.program-held p l .codes) v) (λ is. M._>>=_ (operand-value p h c) (λ w. gives (record { code = is; self = w }))))
           go t (Value.Int z) k = refl
@@ -234,8 +211,8 @@ module _ (p l h : List ℕ) (a c : ℕ) (can : CanJump p l h a c) where
 
       module _ (k : ℕ) (ek : v ≡ Value.Code k) (q : Fetched) (eq : defined (fetched q) ≡ operand-value p h c) where
         pub jump-second : q ≡ Fetched.Undefined → Jumps p l h a c h
-        unfolding commit-jump M._>>=_ defined code-of
-        jump-second e = nothing (λ t. rw (read t, ← er, ev, ek, ← eq, e))
+        unfolding commit-jump M._>>=_ defined code-of jump-place place-to
+        jump-second e = nothing (λ t. rw (read t, ← er, ev, ek, ← eq, e)) (rw (← er, ev, ← eq, e))
 
         module _ (w : Value) (ew : q ≡ Fetched.Found w) where
           is-given : gives w ≡ operand-value p h c
@@ -247,13 +224,14 @@ module _ (p l h : List ℕ) (a c : ℕ) (can : CanJump p l h a c) where
           fits = rw (← is-given) at (operand-fits p l h (can .program) c (can .second))
 
           pub jump-both : (h₁ h₂ : List ℕ) (z : ℕ) → h₁ ≡ set-self h w → h₂ ≡ set-position h₁ z → z ≡ first-place p k → Jumps p l h a c h₂
-          unfolding commit-jump M._>>=_ defined code-of state-held
+          unfolding commit-jump M._>>=_ defined code-of state-held jump-place place-to code-place
           jump-both h₁ h₂ z e₁ e₂ ez = rw (e₂, e₁, ez) (record {
             state = λ t.
                 held-after (remaining p) (set-self h w) t (self-size p h (can .size) w) .position (first-place p k)
                 ∙ ap (with-remaining (remaining p (first-place p k))) (held-after (remaining p) h t (can .size) .self w fits)
-                ∙ rw (read t, ← er, ev, ek, ← is-given, code-at k);
-            header = stays-both p (self-stays p h (can .size) w) (position-stays p (set-self h w) (self-size p h (can .size) w) (first-place p k) (place-small k));
+                ∙ rw (read t, ← er, ev, ek, ← is-given, code-at p l (can .program) k);
+            position = set-position-position (set-self h w) (self-size p h (can .size) w) (first-place p k) ∙ rw (← er, ev, ek, ← is-given);
+            header = stays-both p (self-stays p h (can .size) w) (position-stays p (set-self h w) (self-size p h (can .size) w) (first-place p k) (place-small p l (can .program) k));
             size = position-size p (set-self h w) (self-size p h (can .size) w) (first-place p k);
           })
 
@@ -263,20 +241,18 @@ module _ (p l h t : List ℕ) (i : ℕ) (can : CanCommit p l h t i) where
   size-is : length h ≡ 16384
   size-is = can .writable .sized .size
 
-  after-small : instruction-after p i ≤ instructions p
-  after-small = go (instruction-after p i) refl
-    where
-      go : (z : ℕ) → instruction-after p i ≡ z → z ≤ instructions p
-      go zero e = omega arith
-      go (suc k) e = let q = sound p l (can .writable .program) .next-there i k (can .there) e in omega arith
+  next-small : instruction-after p i ≤ instructions p
+  next-small = after-small p l (can .writable .program) i (can .there)
 
   -- nothing but the position
   onward : (h₂ : List ℕ) → h₂ ≡ set-position h (instruction-after p i) →
       with-remaining (remaining p (instruction-after p i)) (state-of p h t)
-      ≡ commit word-store (trees.program-held p l) (state-of p h t) (remaining p (instruction-after p i)) (trees.instruction-held p i) → Commits p l h t i h₂ t
-  onward h₂ eh q = rw eh (record {
+      ≡ commit word-store (trees.program-held p l) (state-of p h t) (remaining p (instruction-after p i)) (trees.instruction-held p i) →
+      instruction-after p i ≡ position-after p h i → Commits p l h t i h₂ t
+  onward h₂ eh q z = rw eh (record {
     state = held-after (remaining p) h t size-is .position (instruction-after p i) ∙ q;
-    header = position-stays p h size-is (instruction-after p i) after-small;
+    position = set-position-position h size-is (instruction-after p i) ∙ z;
+    header = position-stays p h size-is (instruction-after p i) next-small;
     size = position-size p h size-is (instruction-after p i);
     text-size = can .writable .text-size;
   })
@@ -286,7 +262,8 @@ module _ (p l h t : List ℕ) (i : ℕ) (can : CanCommit p l h t i) where
     form = can .writable .program .entries .instruction i (can .there)
 
     -- assign
-    module _ (path : Path) (x : ℕ) (tree : trees.instruction-held p i ≡ Instruction.assign path (trees.expression-held p x)) (there : x < expressions p) where
+    module _ (path : Path) (x : ℕ) (tree : trees.instruction-held p i ≡ Instruction.assign path (trees.expression-held p x)) (there : x < expressions p)
+        (place : instruction-after p i ≡ position-after p h i) where
       can-assign : CanEvaluate p l h t x
       unfolding right-side
       can-assign = record { writable = can .writable; there = there; room = rw tree at (can .room) }
@@ -295,7 +272,8 @@ module _ (p l h t : List ℕ) (i : ℕ) (can : CanCommit p l h t i) where
       unfolding commit state-held
       done-assign h₁ t₁ h₂ a eh = rw eh (record {
         state = held-after (remaining p) h₁ t₁ (a .size) .position (instruction-after p i) ∙ a .state (remaining p (instruction-after p i)) ∙ rw tree;
-        header = stays-both p (a .header) (position-stays p h₁ (a .size) (instruction-after p i) after-small);
+        position = set-position-position h₁ (a .size) (instruction-after p i) ∙ place;
+        header = stays-both p (a .header) (position-stays p h₁ (a .size) (instruction-after p i) next-small);
         size = position-size p h₁ (a .size) (instruction-after p i);
         text-size = a .text-size;
       })
@@ -304,25 +282,33 @@ module _ (p l h t : List ℕ) (i : ℕ) (can : CanCommit p l h t i) where
       self-tree : trees.instruction-held p i ≡ Instruction.assign (from-self (path-list p n j)) (trees.expression-held p x)
       self-tree = assign-self-held p l (can .writable .program) i (can .there) j n x (sym ee ∙ is)
 
+      self-place : instruction-after p i ≡ position-after p h i
+      unfolding position-after position-by
+      self-place = rw (← ee, is)
+
       pub commit-can-self : CanEvaluate p l h t x
-      commit-can-self = can-assign _ x self-tree (form .self-there j n x (sym ee ∙ is))
+      commit-can-self = can-assign _ x self-tree (form .self-there j n x (sym ee ∙ is)) self-place
 
       pub commit-self : (h₁ t₁ h₂ : List ℕ) → Assigns p l h t (from-self (path-list p n j)) x h₁ t₁ → h₂ ≡ set-position h₁ (instruction-after p i) → Commits p l h t i h₂ t₁
-      commit-self = done-assign _ x self-tree (form .self-there j n x (sym ee ∙ is))
+      commit-self = done-assign _ x self-tree (form .self-there j n x (sym ee ∙ is)) self-place
 
     module _ (j n x : ℕ) (is : e ≡ InstructionEntry.AssignProgram j n x) where
       program-tree : trees.instruction-held p i ≡ Instruction.assign (from-program (path-list p n j)) (trees.expression-held p x)
       program-tree = assign-program-held p l (can .writable .program) i (can .there) j n x (sym ee ∙ is)
 
+      program-place : instruction-after p i ≡ position-after p h i
+      unfolding position-after position-by
+      program-place = rw (← ee, is)
+
       pub commit-can-program : CanEvaluate p l h t x
-      commit-can-program = can-assign _ x program-tree (form .program-there j n x (sym ee ∙ is))
+      commit-can-program = can-assign _ x program-tree (form .program-there j n x (sym ee ∙ is)) program-place
 
       pub commit-program : (h₁ t₁ h₂ : List ℕ) → Assigns p l h t (from-program (path-list p n j)) x h₁ t₁ → h₂ ≡ set-position h₁ (instruction-after p i) → Commits p l h t i h₂ t₁
-      commit-program = done-assign _ x program-tree (form .program-there j n x (sym ee ∙ is))
+      commit-program = done-assign _ x program-tree (form .program-there j n x (sym ee ∙ is)) program-place
 
     pub commit-show : (a : ℕ) (h₂ : List ℕ) → e ≡ InstructionEntry.Show a → h₂ ≡ set-position h (instruction-after p i) → Commits p l h t i h₂ t
-    unfolding commit state-held
-    commit-show a h₂ is eh = onward h₂ eh (rw (show-held p l (can .writable .program) i (can .there) a (sym ee ∙ is)))
+    unfolding commit state-held position-after position-by
+    commit-show a h₂ is eh = onward h₂ eh (rw (show-held p l (can .writable .program) i (can .there) a (sym ee ∙ is))) (rw (← ee, is))
 
     pub commit-bad : (h₂ : List ℕ) → e ≡ InstructionEntry.Bad → Commits p l h t i h₂ t
     commit-bad h₂ is = absurd (form .formed (sym ee ∙ is))
@@ -332,9 +318,10 @@ module _ (p l h t : List ℕ) (i : ℕ) (can : CanCommit p l h t i) where
       commit-can-jump = record { program = can .writable .program; size = size-is; first = form .jump-to a c (sym ee ∙ is) .there; second = form .jump-with a c (sym ee ∙ is) .there }
 
       pub commit-jumps : (h₂ : List ℕ) → Jumps p l h a c h₂ → Commits p l h t i h₂ t
-      unfolding commit state-held
+      unfolding commit state-held position-after position-by
       commit-jumps h₂ k = record {
         state = k .state t ∙ rw (jump-held p l (can .writable .program) i (can .there) a c (sym ee ∙ is));
+        position = k .position ∙ rw (← ee, is);
         header = k .header;
         size = k .size;
         text-size = can .writable .text-size;
@@ -353,13 +340,14 @@ module _ (p l h t : List ℕ) (i : ℕ) (can : CanCommit p l h t i) where
         tested = eb ∙ rw (ev, frames-are h t)
 
         pub commit-ifeq-on : b ≡ true → (h₂ : List ℕ) → h₂ ≡ set-position h (instruction-after p i) → Commits p l h t i h₂ t
-        unfolding commit state-held
-        commit-ifeq-on q h₂ eh = onward h₂ eh (rw (ifeq-tree, ← tested, q))
+        unfolding commit state-held position-after position-by
+        commit-ifeq-on q h₂ eh = onward h₂ eh (rw (ifeq-tree, ← tested, q)) (rw (← ee, is, ← ev, ← eb, q))
 
         pub commit-ifeq-jumps : b ≡ false → (h₂ : List ℕ) → Jumps p l h c d h₂ → Commits p l h t i h₂ t
-        unfolding commit state-held
+        unfolding commit state-held position-after position-by
         commit-ifeq-jumps q h₂ k = record {
           state = k .state t ∙ rw (ifeq-tree, ← tested, q);
+          position = k .position ∙ rw (← ee, is, ← ev, ← eb, q);
           header = k .header;
           size = k .size;
           text-size = can .writable .text-size;

@@ -1,3 +1,5 @@
+pub mod Places
 pub mod Headers
 pub mod Laws
 pub mod Ready
+pub mod Exact

@@ -7,20 +7,24 @@ use lib.Dec.{leb}
 use lib.ListN.{length}
 use Rattle.words.specs.Words.{pick}
 use Rattle.framed.specs.declared.Value.{Value}
+use Rattle.framed.specs.Values.{truth}
 use Rattle.framed.specs.Tree.{Code}
 use Rattle.framed.specs.Paths.{Path}
 use Rattle.framed.specs.Machine.{Result, gives, ends, frame-literals, join-signs, right-side}
+use Rattle.tables.specs.declared.InstructionEntry.{InstructionEntry}
+use Rattle.tables.specs.Entries.{instruction-at}
 use Rattle.tables.specs.Fields.{expressions, instructions, codes, code-first, instruction-after}
 use Rattle.program_form.specs.WellFormed.{WellFormed}
 use Rattle.trees.specs.Held as trees
 use Rattle.trees.specs.Held.{remaining}
-use Rattle.heap.specs.Words.{self-held, program-held}
+use Rattle.heap.specs.Words.{self-held, program-held, position}
 use Rattle.heap.specs.Held.{frames-held}
 use Rattle.paths.specs.Paths.{path-held}
 use Rattle.puts.specs.Puts.{target-along, put-slot}
+use Rattle.operands.specs.Operands.{operand-value}
 use Rattle.state_form.specs.declared.Limits.{Limits}
 use Rattle.bounded.specs.Check.{Target, jump-result}
-use Rattle.bounded.specs.Bounded.{Bounded, evaluate, commit-assign, commit-jump, commit, heap-in}
+use Rattle.bounded.specs.Bounded.{Bounded, value-given, evaluate, commit-assign, commit-jump, commit, heap-in}
 use Rattle.word_store.specs.Store.{Memories, word-store}
 use Rattle.word_store.specs.State.{store-held, state-held, with-remaining, HeaderFormed}
 use Rattle.producing.specs.Producing.{HasRoom, Writable}
@@ -60,6 +64,21 @@ pub record Assigns (p l h t : List ℕ) (path : Path) (x : ℕ) (h′ t′ : Lis
 unfoldable pub first-place : List ℕ → ℕ → ℕ
 first-place p k = pick (leb (codes p) k) 0 (code-first p k)
 
+-- where a jump goes: the place of the code that the first operand gives, where the second gives a value; else the place stays z
+unfoldable pub code-place : List ℕ → ℕ → Value → ℕ
+code-place p z (Value.Int n) = z
+code-place p z (Value.Text t) = z
+code-place p z (Value.Code k) = first-place p k
+code-place p z (Value.Frame n) = z
+
+unfoldable pub place-to : List ℕ → ℕ → Result Value → Result Value → ℕ
+place-to p z (gives v) (gives w) = code-place p z v
+place-to p z (gives v) (ends e) = z
+place-to p z (ends e) r = z
+
+unfoldable pub jump-place : List ℕ → List ℕ → ℕ → ℕ → ℕ
+jump-place p h a c = place-to p (position h) (operand-value p h a) (operand-value p h c)
+
 pub record CanJump (p l h : List ℕ) (a c : ℕ) : Type 0 where
   pub program : WellFormed p l
   pub size : length h ≡ 16384
@@ -71,10 +90,23 @@ pub record Jumps (p l h : List ℕ) (a c : ℕ) (h′ : List ℕ) : Type 0 where
       state-of p h′ t
       ≡ commit-jump word-store (state-of p h t)
       (jump-result (trees.program-held p l .codes) (self-held h) (program-held h) (heap-in word-store (store-held h t) .frames) (trees.base-held p a) (trees.base-held p c))
+  pub position : position h′ ≡ jump-place p h a c
   pub header : HeaderStays p h h′
   pub size : length h′ ≡ 16384
 
 -- ---- Instructions
+
+-- the position after instruction i, by its entry
+unfoldable pub position-by : List ℕ → List ℕ → ℕ → InstructionEntry → ℕ
+position-by p h i (InstructionEntry.AssignSelf j n x) = instruction-after p i
+position-by p h i (InstructionEntry.AssignProgram j n x) = instruction-after p i
+position-by p h i (InstructionEntry.Show a) = instruction-after p i
+position-by p h i (InstructionEntry.Jump a c) = jump-place p h a c
+position-by p h i (InstructionEntry.Ifeq a c d) = pick (truth (value-given (operand-value p h a))) (instruction-after p i) (jump-place p h c d)
+position-by p h i InstructionEntry.Bad = instruction-after p i
+
+unfoldable pub position-after : List ℕ → List ℕ → ℕ → ℕ
+position-after p h i = position-by p h i (instruction-at p i)
 
 -- instruction i is there, and there is room for what it makes
 pub record CanCommit (p l h t : List ℕ) (i : ℕ) : Type 0 where
@@ -84,6 +116,7 @@ pub record CanCommit (p l h t : List ℕ) (i : ℕ) : Type 0 where
 
 pub record Commits (p l h t : List ℕ) (i : ℕ) (h′ t′ : List ℕ) : Type 0 where
   pub state : state-of p h′ t′ ≡ commit word-store (trees.program-held p l) (state-of p h t) (remaining p (instruction-after p i)) (trees.instruction-held p i)
+  pub position : position h′ ≡ position-after p h i
   pub header : HeaderStays p h h′
   pub size : length h′ ≡ 16384
   pub text-size : length t′ ≡ 16384

@@ -33,6 +33,8 @@ use Rattle.names.specs.Kept.{table-of, is-new, Noted}
 use Rattle.names.proofs.Laws.{table-length, table-more}
 use Rattle.table_updates.specs.Updates.{set-name-length, set-name-byte}
 use Rattle.emission.specs.Emit.{write-name-bytes, write-names}
+use Rattle.names.proofs.Laws.{grows, names-other, names-name}
+use Rattle.emit_steps.proofs.Laws.{token-inj, first-token}
 use Rattle.emit_names.specs.Table.{NumberAt, Few, Sized, Kept, write-kept}
 
 -- ---- The number of a name
@@ -119,12 +121,6 @@ name≢ s w k a p x l e = sym (kind-is s a p x k l) ∙ ap token-kind e
 name-inj : {v w : List ℕ} → Token.name v ≡ Token.name w → v ≡ w
 name-inj e = cc
 
-token-inj : {t u : Token} {r q : List ℕ} → token t r ≡ token u q → t ≡ u
-token-inj e = cc
-
-first-token : {bs : List ℕ} {t : Token} {ts : List Token} → Tokens⊢ class bs (t ∷ ts) → (q : List ℕ) × (next class bs ≡ token t q) × Tokens⊢ class q ts
-first-token (Tokens⊢.more {rest = q} e d) = (q, e, d)
-
 module _ (s b e : List ℕ) (n at : ℕ) (t : TokenRead) (found : TokenAt class s at t) where
   pub number-none : OneOf (0 ∷ 1 ∷ []) (tagOf the-type t) → NumberAt s b e n at 0
   unfolding meant
@@ -169,33 +165,6 @@ module _ (s b e : List ℕ) (n k a p : ℕ) where
 -- ---- The loop that keeps them
 
 -- names are only added
-grows : (table : List (List ℕ)) (ts : List Token) → length table ≤ length (names-after table ts)
-unfolding names-after
-grows table [] = omega arith
-grows table (Token.name w ∷ ts) = go (any (same w) table) (grows table ts) (grows (table ++ (w ∷ [])) ts)
-  where
-    go : (t : Bool) → length table ≤ length (names-after table ts) → length (table ++ (w ∷ [])) ≤ length (names-after (table ++ (w ∷ [])) ts)
-        → length table ≤ length (names-after (if t then table else table ++ (w ∷ [])) ts)
-    go true a b = a
-    go false a b = omega (arith, length-append table (w ∷ []))
-grows table (Token.integer z ∷ ts) = grows table ts
-grows table (Token.string w ∷ ts) = grows table ts
-grows table (Token.code ∷ ts) = grows table ts
-grows table (Token.fixed f ∷ ts) = grows table ts
-
-names-other : (table : List (List ℕ)) (t : Token) (ts : List Token) → (token-kind t ≡ 25 → ⊥) → names-after table (t ∷ ts) ≡ names-after table ts
-unfolding names-after token-kind
-names-other table (Token.name w) ts n = absurd (n refl)
-names-other table (Token.integer z) ts n = refl
-names-other table (Token.string w) ts n = refl
-names-other table Token.code ts n = refl
-names-other table (Token.fixed f) ts n = refl
-
-names-name : (s : List ℕ) (a p w : ℕ) (table : List (List ℕ)) (ts : List Token) →
-    names-after table (token-of s 25 a p w ∷ ts) ≡ names-after (if any (same (part s a p)) table then table else table ++ (part s a p ∷ [])) ts
-unfolding names-after token-of
-names-name s a p w table ts = refl
-
 names-step : (s : List ℕ) (k a p w : ℕ) (table : List (List ℕ)) (ts : List Token) → k < 29 →
     names-after table (token-of s k a p w ∷ ts) ≡ names-after (if (eqb k 25 && not (any (same (part s a p)) table)) then table ++ (part s a p ∷ []) else table) ts
 names-step s k a p w table ts l = go (eqb k 25) refl (any (same (part s a p)) table) refl

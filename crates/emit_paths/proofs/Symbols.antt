@@ -109,7 +109,7 @@ number-ahead s b e count n m r us x h =
     x .is (y .0) (y .1) (rw (y .2) at (h .reads)) ∙ sym (y .3)
 
 -- past the end nothing is ahead
-past-end : (s : List ℕ) (at : ℕ) → length s ≤ at → (t : Token) (ts : List Token) → Tokens⊢ class (rest s at) (t ∷ ts) → ⊥
+pub past-end : (s : List ℕ) (at : ℕ) → length s ≤ at → (t : Token) (ts : List Token) → Tokens⊢ class (rest s at) (t ∷ ts) → ⊥
 unfolding next read skip
 past-end s at l t ts d = end≢token (sym (ends (rest s at) (rest-end s at l)) ∙ first-token d .1)
   where

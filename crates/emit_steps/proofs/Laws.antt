@@ -35,7 +35,7 @@ more-none n l = rw (le-ltb n 4294967295 l)
 
 -- ---- One token
 
-token-inj : {t u : Token} {r q : List ℕ} → token t r ≡ token u q → t ≡ u
+pub token-inj : {t u : Token} {r q : List ℕ} → token t r ≡ token u q → t ≡ u
 token-inj e = cc
 
 pub first-token : {bs : List ℕ} {t : Token} {ts : List Token} → Tokens⊢ class bs (t ∷ ts) → (q : List ℕ) × (next class bs ≡ token t q) × Tokens⊢ class q ts

@@ -181,18 +181,18 @@ module _ (M : LentMachine) where
     lent-collect : LentCall
 
   -- what the unbounded machine is fed: the call's kind, and a run's fuel and buffer length
-  pub fed : List LentCall → List Call
+  unfoldable pub fed : List LentCall → List Call
   fed [] = []
   fed (lent-run fuel buffer ∷ cs) = run-call fuel (length buffer) ∷ fed cs
   fed (lent-collect ∷ cs) = collect-call ∷ fed cs
 
   -- the reports of our calls, each call over the memories that the one before left
-  pub lent-reports : Memories → List LentCall → List Report
+  unfoldable pub lent-reports : Memories → List LentCall → List Report
   lent-reports m [] = []
   lent-reports m (lent-run fuel buffer ∷ cs) = reported m fuel buffer ∷ lent-reports (M .run m fuel buffer .memories) cs
   lent-reports m (lent-collect ∷ cs) = collect-report (M .collect m .answer) ∷ lent-reports (M .collect m .memories) cs
 
-  pub memories-after : Memories → List LentCall → Memories
+  unfoldable pub memories-after : Memories → List LentCall → Memories
   memories-after m [] = m
   memories-after m (lent-run fuel buffer ∷ cs) = memories-after (M .run m fuel buffer .memories) cs
   memories-after m (lent-collect ∷ cs) = memories-after (M .collect m .memories) cs

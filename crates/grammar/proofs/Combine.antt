@@ -24,8 +24,9 @@ use Rattle.token.specs.declared.TokenRead.{TokenRead}
 use Rattle.token.proofs.TokenRead.{the-type}
 use Rattle.sweep.proofs.Numbered.{operator-range, fixed-below}
 use Rattle.sweep.specs.Kinds.{kind-of, front-kind}
-use Rattle.grammar.specs.Runs.{Outcome, Runs, Any, Moved, KindAt, Front, Expects, KindsOk}
+use Rattle.grammar.specs.Runs.{Outcome, Runs, Any, Moved, KindAt, Front, Expects, KindsOk, Sees}
 use Rattle.grammar.specs.declared.Found.{Found}
+use Rattle.grammar.specs.declared.Seen.{Seen}
 
 -- ---- Readers one after the other, one or the other
 
@@ -116,6 +117,9 @@ module _ (s : List ℕ) (at : ℕ) (t : TokenRead) (says : TokenAt class s at t)
   pub kind-none : OneOf (0 ∷ 1 ∷ []) (tagOf the-type t) → KindAt s at 29
   kind-none o = record { is = nothing s at t says o }
 
+  pub see-none : (e : ℕ) → OneOf (0 ∷ 1 ∷ []) (tagOf the-type t) → Sees s at (record { kind = 29; end = e })
+  see-none e o = record { kind-is = kind-none o; end-is = λ lo hi l h m. absurd (omega arith) }
+
   pub expect-none : (lo hi : ℕ) → KindsOk lo hi → OneOf (0 ∷ 1 ∷ []) (tagOf the-type t) → Expects s lo hi at Found.Refused
   expect-none lo hi ok o = record {
     front = λ table k c ts d. Front.too-high (rw (nothing s at t says o table k c ts d) (ok .known));
@@ -154,6 +158,9 @@ module _ (s : List ℕ) (at : ℕ) (t : TokenRead) (says : TokenAt class s at t)
       front = λ table k c ts d. expected lo hi l h table (numbered table k c ts) (front-of table k c ts d);
       on = Moved.moves {p = p} (omega (arith, spot .begins, spot .more)) (spot .inside);
     }
+
+    pub see-some : Sees s at (record { kind = kk; end = p })
+    see-some = record { kind-is = kind-some; end-is = λ lo hi l h m. expect-one lo hi l h }
 
 -- ---- Readers of one symbol
 

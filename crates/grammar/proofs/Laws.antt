@@ -8,9 +8,10 @@ use Rattle.framed.specs.Tokens.{Fixed}
 use Rattle.framed.specs.Tree.{Base, Expression, Slots, Instruction, _then_}
 use Rattle.framed.specs.Parse.{Reader, give, _or_, this, a-name, a-code, a-constant, an-operator, fixed-number, a-path, a-frame, a-base, an-expression, slots, an-instruction, instructions}
 use Rattle.framed.specs.Parse as P
-use Rattle.grammar.specs.Runs.{Outcome, Runs, Any, Onward, Meets, MeetsAll, Reads, KindAt, Expects}
+use Rattle.grammar.specs.Runs.{Outcome, Runs, Any, Onward, Meets, MeetsAll, Reads, KindAt, Expects, Sees}
 use Rattle.grammar.specs.Readers.{block, negation, operation, binary, frame, more-slots, showing, jumping, branching, assigning}
 use Rattle.grammar.specs.declared.Found.{Found}
+use Rattle.grammar.specs.declared.Seen.{Seen}
 use Rattle.grammar.proofs.Combine.{give-runs, or-runs, or-only, or-else, map-runs, by-runs, by-stops, by-name, by-code, by-constant, by-operator}
 use Rattle.grammar.proofs.Paths.{go-on, go-then, stop-on, stop-then, this-at, not-this, last-then, kind-past, moved, went, moved-on, later-on}
 
@@ -104,12 +105,20 @@ module _ (s : List ℕ) (at k : ℕ) (h : KindAt s at k) where
     on = m .on;
   }
 
-  pub base-constant : (r : Found) → (k ≡ 28 → ⊥) → 26 ≤ k → Expects s 26 27 at r → Meets a-base 1 s at r
+  base-constant : (r : Found) → (k ≡ 28 → ⊥) → 26 ≤ k → Expects s 26 27 at r → Meets a-base 1 s at r
   unfolding a-base block
   base-constant r o e m = record {
     says = from-suc a-base s at _ r (λ n l. or-only Any s at _ _ r (by-runs a-constant 26 27 by-constant s at r m)
         (or-else Any s at _ _ Found.Refused (stop-on s a-path at Found.Refused refl (no-path (λ f. absurd (omega arith)) (λ f. absurd (omega arith))) _) (no-block n o)));
     on = moved-on at r (omega arith) (m .on);
+  }
+
+  pub base-none : (k ≡ 28 → ⊥) → 28 ≤ k → Meets a-base 1 s at Found.Refused
+  unfolding a-base block
+  base-none o e = record {
+    says = from-suc a-base s at _ Found.Refused (λ n l. or-else Any s at _ _ Found.Refused (no-constant (λ a b. absurd (omega arith)))
+        (or-else Any s at _ _ Found.Refused (stop-on s a-path at Found.Refused refl (no-path (λ f. absurd (omega arith)) (λ f. absurd (omega arith))) _) (no-block n o)));
+    on = Onward.stops;
   }
 
   -- what begins otherwise is no base
@@ -130,6 +139,9 @@ module _ (s : List ℕ) (at k : ℕ) (h : KindAt s at k) where
   no-binary : (n : ℕ) → (k ≡ 1 → ⊥) → (k ≡ 8 → ⊥) → k < 26 → Runs Any s (binary n) at Found.Refused
   unfolding binary
   no-binary n a b c = stop-on s (a-base n) at Found.Refused refl (no-base n a b c) _
+
+pub base-token : (s : List ℕ) (at : ℕ) (t : Seen) → Sees s at t → (t .kind ≡ 28 → ⊥) → 26 ≤ t .kind → t .kind < 28 → Meets a-base 1 s at (Found.Done (t .end))
+base-token s at t h o l m = base-constant s at (t .kind) (h .kind-is) _ o l (h .end-is 26 27 l (omega arith) (omega arith))
 
 -- ---- `!` base, base operator base
 

@@ -14,9 +14,10 @@ use Rattle.framed.proofs.TokensExact.{end≢token}
 use Rattle.framed.proofs.ParseExact.{bind-out, bind-fails, or-first, or-second, this-in, a-name-in, then-this, fails≢parsed}
 use Rattle.source.proofs.Positions.{rest-end}
 use Rattle.sweep.specs.Kinds.{front-kind}
-use Rattle.grammar.specs.Runs.{Outcome, Runs, Any, Onward, Moved, Reads, ReadsOn, Passes, KindAt, Expects}
+use Rattle.grammar.specs.Runs.{Outcome, Runs, Any, Onward, Moved, Reads, ReadsOn, Passes, KindAt, Expects, Sees}
 use Rattle.grammar.specs.Readers.{dot-name, dot-up, more-ups, self-path, up-path}
 use Rattle.grammar.specs.declared.Found.{Found}
+use Rattle.grammar.specs.declared.Seen.{Seen}
 use Rattle.grammar.proofs.Combine.{bind-runs, then-runs, bind-stops, then-stops, give-runs, or-only, or-else, map-runs, by-runs, by-stops, by-this, by-name}
 
 -- ---- One reader after another, with the code's facts
@@ -283,20 +284,12 @@ unfolding further-ups more-ups dot-up
 ups-counted s p q m = map-runs s (many (P._>>_ (this Fixed.dot) (this Fixed.up))) length p (Found.Done q) (m .says)
 
 module _ (s : List ℕ) (at : ℕ) (x : Found) where
-  pub self-none : Expects s 1 1 at x → x ≡ Found.Refused → Reads self-path s at Found.Refused
-  unfolding self-path fixed-number
-  self-none ex e = record { says = stop-then s (this Fixed.self) at x e (this-at Fixed.self (omega arith) s at x ex) _; on = Onward.stops }
-
   pub self-some : Expects s 1 1 at x → (p q : ℕ) → x ≡ Found.Done p → Passes names s p q → Reads self-path s at (Found.Done q)
   unfolding self-path fixed-number
   self-some ex p q e m = record {
     says = go-then s (this Fixed.self) at p x (Found.Done q) e (this-at Fixed.self (omega arith) s at x ex) _ (map-runs s names Written.self p (Found.Done q) (m .says));
     on = Onward.goes {p = q} (omega (arith, m .on, moved x (ex .on) e));
   }
-
-  pub up-none : Expects s 8 8 at x → x ≡ Found.Refused → Reads up-path s at Found.Refused
-  unfolding up-path fixed-number
-  up-none ex e = record { says = stop-then s (this Fixed.up) at x e (this-at Fixed.up (omega arith) s at x ex) _; on = Onward.stops }
 
   pub up-some : Expects s 8 8 at x → (p q u : ℕ) → x ≡ Found.Done p → Passes more-ups s p q → Passes names s q u → Reads up-path s at (Found.Done u)
   unfolding up-path fixed-number
@@ -322,3 +315,21 @@ path-up s at k r h e m = record {
   says = or-else Any s at _ _ r (stop-then s (this Fixed.self) at Found.Refused refl (not-this Fixed.self (omega arith) s at k h e) _) (m .says);
   on = m .on;
 }
+
+-- a path by its first token
+module _ (s : List ℕ) (at : ℕ) (t : Seen) (h : Sees s at t) where
+  pub seen-self : t .kind ≡ 1 → (q : ℕ) → Passes names s (t .end) q → Reads a-path s at (Found.Done q)
+  seen-self e q m =
+      path-self s at (t .kind) _ (h .kind-is) e
+      (self-some s at (Found.Done (t .end)) (h .end-is 1 1 (omega arith) (omega arith) (omega arith)) (t .end) q refl m)
+
+  pub seen-up : (t .kind ≡ 1 → ⊥) → t .kind ≡ 8 → (q u : ℕ) → Passes more-ups s (t .end) q → Passes names s q u → Reads a-path s at (Found.Done u)
+  seen-up n e q u m l =
+      path-up s at (t .kind) _ (h .kind-is) n
+      (up-some s at (Found.Done (t .end)) (h .end-is 8 8 (omega arith) (omega arith) (omega arith)) (t .end) q u refl m l)
+
+  pub seen-none : (t .kind ≡ 1 → ⊥) → (t .kind ≡ 8 → ⊥) → Reads a-path s at Found.Refused
+  unfolding up-path fixed-number
+  seen-none n o =
+      path-up s at (t .kind) _ (h .kind-is) n
+      (record { says = stop-then s (this Fixed.up) at Found.Refused refl (not-this Fixed.up (omega arith) s at (t .kind) (h .kind-is) o) _; on = Onward.stops })

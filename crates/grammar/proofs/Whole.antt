@@ -24,7 +24,7 @@ use Rattle.grammar.specs.Readers.{frame}
 use Rattle.grammar.specs.declared.Found.{Found}
 use Rattle.sweep.proofs.Numbered.{fixed-below}
 
-numbered-length : (table : List (List ℕ)) (k c : ℕ) (ts : List Token) → length (numbered table k c ts) ≡ length ts
+pub numbered-length : (table : List (List ℕ)) (k c : ℕ) (ts : List Token) → length (numbered table k c ts) ≡ length ts
 unfolding numbered
 numbered-length table k c [] = refl
 numbered-length table k c (Token.name w ∷ ts) = ap suc (numbered-length table k c ts)

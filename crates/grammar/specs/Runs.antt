@@ -14,6 +14,7 @@ use Rattle.framed.specs.Meaning.{is-none}
 use Rattle.source.specs.Positions.{rest}
 use Rattle.sweep.specs.Kinds.{kind-of, front-kind}
 use Rattle.grammar.specs.declared.Found.{Found}
+use Rattle.grammar.specs.declared.Seen.{Seen}
 
 -- what a reader finds: `fails`, or a value that is as Q says with the symbols of the source from p on. Names are numbered by the table;
 -- the numbers of strings and codes go on from any k and c
@@ -69,6 +70,11 @@ pub record Expects (s : List ℕ) (lo hi at : ℕ) (r : Found) : Type 0 where
 
 pub record KindsOk (lo hi : ℕ) : Type 0 where
   pub known : hi < 29
+
+-- the token that stands at `at`: its kind, and where it ends
+pub record Sees (s : List ℕ) (at : ℕ) (t : Seen) : Type 0 where
+  pub kind-is : KindAt s at (t .kind)
+  pub end-is : (lo hi : ℕ) → lo ≤ t .kind → t .kind ≤ hi → hi < 29 → Expects s lo hi at (Found.Done (t .end))
 
 -- a function outside the cycle that reads at least one token
 pub record ReadsOn {A : Type 0} (R : Reader A) (s : List ℕ) (at : ℕ) (r : Found) : Type 0 where

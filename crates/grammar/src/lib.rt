@@ -1,6 +1,6 @@
 // The grammar: functions over a source and a position that call each other in a cycle; the unread source length falls.
 ghost use Rattle.framed.specs.Parse.{a-base, a-path, an-expression, slots, an-instruction, instructions, names};
-ghost use Rattle.grammar.specs.Runs.{Meets, MeetsAll, Reads, ReadsOn, Passes, Expects, KindAt, KindsOk, OneFrame};
+ghost use Rattle.grammar.specs.Runs.{Meets, MeetsAll, Reads, ReadsOn, Passes, Expects, KindAt, KindsOk, Sees, OneFrame};
 ghost use Rattle.grammar.specs.Readers as R;
 use token::TokenRead;
 
@@ -37,6 +37,22 @@ pub fn kind_at(s: &[u8], at: usize) -> u32
         return 29;
     };
     k
+}
+
+// The token that stands there: its kind, 29 where there is none, and where it ends.
+pub struct Seen {
+    pub kind: u32,
+    pub end: usize,
+}
+
+fn look(s: &[u8], at: usize) -> Seen
+    ensures { λ r. ⌜ Sees (now (s .entry)) at r ⌝ }
+{
+    let t = token::token_at(s, at);
+    let TokenRead::Token(k, a, p, w) = t else {
+        return Seen { kind: 29, end: at };
+    };
+    Seen { kind: k, end: p }
 }
 
 fn dot_name(s: &[u8], at: usize) -> Found
@@ -89,38 +105,29 @@ fn ups(s: &[u8], at: usize) -> usize
     i
 }
 
-fn self_path(s: &[u8], at: usize) -> Found
-    ensures { λ r. ⌜ Reads R.self-path (now (s .entry)) at r ⌝ }
+// A path whose first token is t.
+fn path_from(s: &[u8], at: usize, t: Seen) -> Found
+    requires { ⌜ Sees (now s) at t ⌝ }
+    ensures { λ r. ⌜ Reads a-path (now (s .entry)) at r ⌝ }
 {
-    let x = expect(s, at, 1, 1);
-    let Found::Done(p) = x else {
-        return Found::Refused;
-    };
-    let q = names(s, p);
-    Found::Done(q)
-}
-
-fn up_path(s: &[u8], at: usize) -> Found
-    ensures { λ r. ⌜ Reads R.up-path (now (s .entry)) at r ⌝ }
-{
-    let x = expect(s, at, 8, 8);
-    let Found::Done(p) = x else {
-        return Found::Refused;
-    };
-    let q = ups(s, p);
-    let u = names(s, q);
-    Found::Done(u)
+    if t.kind == 1 {
+        let q = names(s, t.end);
+        return Found::Done(q);
+    }
+    if t.kind == 8 {
+        let q = ups(s, t.end);
+        let u = names(s, q);
+        return Found::Done(u);
+    }
+    Found::Refused
 }
 
 // A path.
 fn path(s: &[u8], at: usize) -> Found
     ensures { λ r. ⌜ Reads a-path (now (s .entry)) at r ⌝ }
 {
-    let k = kind_at(s, at);
-    if k == 1 {
-        return self_path(s, at);
-    }
-    up_path(s, at)
+    let t = look(s, at);
+    path_from(s, at, t)
 }
 
 // `code` `{` instructions `}`
@@ -143,17 +150,20 @@ fn block(s: &[u8], at: usize) -> Found
 }
 
 // Integer, string, path or code.
-fn base(s: &[u8], at: usize) -> Found
+pub fn base(s: &[u8], at: usize) -> Found
     ensures { λ r. ⌜ Meets a-base 1 (now (s .entry)) at r ⌝ }
 {
-    let k = kind_at(s, at);
-    if k == 28 {
+    let t = look(s, at);
+    if t.kind == 28 {
         return block(s, at);
     }
-    if k < 26 {
-        return path(s, at);
+    if t.kind < 26 {
+        return path_from(s, at, t);
     }
-    expect(s, at, 26, 27)
+    if t.kind < 28 {
+        return Found::Done(t.end);
+    }
+    Found::Refused
 }
 
 // `!` base

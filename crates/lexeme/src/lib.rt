@@ -3,13 +3,15 @@ ghost use mathlib.Core.Path.{_≡_};
 ghost use Prim.Native.Nat.{_-_};
 ghost use Rattle.framed.specs.Common.{same};
 ghost use Rattle.framed.specs.Bytes.{class};
+ghost use Rattle.source.specs.Classified.{Classified};
 ghost use Rattle.lexeme.specs.Lexemes.{run-test, RunEnds, word-kind, pushed, capped};
 
 // The byte belongs to a run: 0 string bytes, 1 digits, else letters and digits.
-fn in_run(b: u8, m: u8) -> bool
+fn in_run(t: &[u8; 256], b: u8, m: u8) -> bool
+    requires { ⌜ Classified (now t) ⌝ }
     ensures { λ r. ⌜ r ≡ run-test class m b ⌝ }
 {
-    let k = source::class_of(b);
+    let k = source::class_in(t, b);
     if m == 0 {
         if b < 32 {
             return false;
@@ -32,10 +34,11 @@ fn in_run(b: u8, m: u8) -> bool
 pub fn run_end(s: &[u8], at: usize, m: u8) -> usize
     ensures { λ r. ⌜ RunEnds class (now (s .entry)) m at r ⌝ }
 {
+    let classes = source::classes();
     let mut i = at;
     while i < s.len() {
         let b = source::byte_at(s, i);
-        let t = in_run(b, m);
+        let t = in_run(&classes, b, m);
         if !t {
             return i;
         }

@@ -7,6 +7,7 @@ use Prim.Native.Nat.{ℕ, _+_, _-_, _<_, _≤_}
 use native.Mathlib.Omega.{arith}
 use lib.Dec.{leb, ltb}
 use lib.ListN.{length}
+use borrow.Author.Tests.{lt-ltb, le-ltb}
 use Rattle.framed.specs.Common.{count, total}
 use Rattle.framed.specs.Bytes.{class}
 use Rattle.framed.specs.Tokens.{Token, tokens}
@@ -20,10 +21,7 @@ use Rattle.sums.specs.Weights.{whole-sum, Sums}
 use Rattle.sums.proofs.Trees.{tree-sum}
 use Rattle.sums.proofs.Counted.{expressions, instructions, strings, codes, frames, marks, path-name-total, far-ups}
 use Rattle.names.specs.Kept.{ManyNames}
-use Rattle.limits.specs.Limits.{Above, misplaced-tree, path-names-tree, limit-tree, far-tree, frames-tree}
-
-pub above-sum : (s : List ℕ) (what limit n : ℕ) → Sums s what n → Above s what limit (ltb limit n)
-above-sum s what limit n m = record { is = λ ts e. ap (ltb limit) (m .is ts e) }
+use Rattle.limits.specs.Limits.{misplaced-tree, path-names-tree, limit-tree, far-tree, frames-tree}
 
 -- ---- The tree of a source
 
@@ -46,14 +44,14 @@ module _ (ts : List Token) (ss : Slots Written) (f : parse (symbols ts) ≡ some
   path-names-are : whole-sum 6 ts ≡ total path-names (pieces ss) + whole-sum 7 ts
   path-names-are = tree-sum 6 ts ss (parse-sound (symbols ts) f) ∙ path-name-total (pieces ss) ∙ ap (λ (n : ℕ). total path-names (pieces ss) + n) (sym (tree-sum 7 ts ss (parse-sound (symbols ts) f)))
 
-module _ (s : List ℕ) (r : Bool) where
-  pub misplaced-is : Above s 5 0 r → Decides misplaced-tree s r
+module _ (s : List ℕ) (n : ℕ) where
+  pub misplaced-is : Sums s 5 n → Decides misplaced-tree s (ltb 0 n)
   unfolding misplaced-tree
-  misplaced-is m = record { is = λ ts ss e f. m .is ts e ∙ ap (ltb 0) (tree-sum 5 ts ss (parse-sound (symbols ts) f)) ∙ marks (pieces ss) }
+  misplaced-is m = record { is = λ ts ss e f. ap (ltb 0) (m .is ts e ∙ tree-sum 5 ts ss (parse-sound (symbols ts) f)) ∙ marks (pieces ss) }
 
-  pub far-is : Above s 8 0 r → Decides far-tree s r
+  pub far-is : Sums s 8 n → Decides far-tree s (ltb 0 n)
   unfolding far-tree
-  far-is m = record { is = λ ts ss e f. m .is ts e ∙ ap (ltb 0) (tree-sum 8 ts ss (parse-sound (symbols ts) f)) ∙ far-ups (pieces ss) }
+  far-is m = record { is = λ ts ss e f. ap (ltb 0) (m .is ts e ∙ tree-sum 8 ts ss (parse-sound (symbols ts) f)) ∙ far-ups (pieces ss) }
 
 pub frames-is : (s : List ℕ) (F n most : ℕ) → Sums s 4 n → most ≡ F → Decides (frames-tree F) s (leb most n)
 unfolding frames-tree
@@ -80,41 +78,41 @@ module _ (s : List ℕ) (a : Bool) (ma : ManyNames s a) where
   unfolding limit-tree above-limit
   limit-1 ta = record { is = λ ts ss e f. rw (sym (ma .is ts e) ∙ ta) }
 
-  module _ (fa : a ≡ false) (b : Bool) (mb : Above s 1 512 b) where
+  module _ (fa : a ≡ false) (b : ℕ) (mb : Sums s 1 b) where
     no-names : (ts : List Token) → tokens class s ≡ some ts → ltb 128 (length (name-table ts)) ≡ false
     no-names ts e = sym (ma .is ts e) ∙ fa
 
-    b-is : (t : Bool) → b ≡ t → (ts : List Token) (ss : Slots Written) → tokens class s ≡ some ts → parse (symbols ts) ≡ some ss → ltb 512 (count (is-one instruction) (pieces ss)) ≡ t
-    b-is t h ts ss e f = ap (ltb 512) (sym (instructions-are ts ss f)) ∙ sym (mb .is ts e) ∙ h
+    b-is : (t : Bool) → ltb 512 b ≡ t → (ts : List Token) (ss : Slots Written) → tokens class s ≡ some ts → parse (symbols ts) ≡ some ss → ltb 512 (count (is-one instruction) (pieces ss)) ≡ t
+    b-is t h ts ss e f = ap (ltb 512) (sym (mb .is ts e ∙ instructions-are ts ss f)) ∙ h
 
-    pub limit-2 : b ≡ true → Decides limit-tree s true
+    pub limit-2 : 512 < b → Decides limit-tree s true
     unfolding limit-tree above-limit
-    limit-2 tb = record { is = λ ts ss e f. rw (no-names ts e, b-is true tb ts ss e f) }
+    limit-2 tb = record { is = λ ts ss e f. rw (no-names ts e, b-is true (lt-ltb 512 b tb) ts ss e f) }
 
-    module _ (fb : b ≡ false) (c : Bool) (mc : Above s 2 128 c) where
-      c-is : (t : Bool) → c ≡ t → (ts : List Token) (ss : Slots Written) → tokens class s ≡ some ts → parse (symbols ts) ≡ some ss → ltb 128 (count (is-one string) (pieces ss)) ≡ t
-      c-is t h ts ss e f = ap (ltb 128) (sym (strings-are ts ss f)) ∙ sym (mc .is ts e) ∙ h
+    module _ (fb : b ≤ 512) (c : ℕ) (mc : Sums s 2 c) where
+      c-is : (t : Bool) → ltb 128 c ≡ t → (ts : List Token) (ss : Slots Written) → tokens class s ≡ some ts → parse (symbols ts) ≡ some ss → ltb 128 (count (is-one string) (pieces ss)) ≡ t
+      c-is t h ts ss e f = ap (ltb 128) (sym (mc .is ts e ∙ strings-are ts ss f)) ∙ h
 
-      pub limit-3 : c ≡ true → Decides limit-tree s true
+      pub limit-3 : 128 < c → Decides limit-tree s true
       unfolding limit-tree above-limit
-      limit-3 tc = record { is = λ ts ss e f. rw (no-names ts e, b-is false fb ts ss e f, c-is true tc ts ss e f) }
+      limit-3 tc = record { is = λ ts ss e f. rw (no-names ts e, b-is false (le-ltb 512 b fb) ts ss e f, c-is true (lt-ltb 128 c tc) ts ss e f) }
 
-      module _ (fc : c ≡ false) (d : Bool) (md : Above s 3 128 d) where
-        d-is : (t : Bool) → d ≡ t → (ts : List Token) (ss : Slots Written) → tokens class s ≡ some ts → parse (symbols ts) ≡ some ss → ltb 128 (count (is-one code) (pieces ss)) ≡ t
-        d-is t h ts ss e f = ap (ltb 128) (sym (codes-are ts ss f)) ∙ sym (md .is ts e) ∙ h
+      module _ (fc : c ≤ 128) (d : ℕ) (md : Sums s 3 d) where
+        d-is : (t : Bool) → ltb 128 d ≡ t → (ts : List Token) (ss : Slots Written) → tokens class s ≡ some ts → parse (symbols ts) ≡ some ss → ltb 128 (count (is-one code) (pieces ss)) ≡ t
+        d-is t h ts ss e f = ap (ltb 128) (sym (md .is ts e ∙ codes-are ts ss f)) ∙ h
 
-        pub limit-4 : d ≡ true → Decides limit-tree s true
+        pub limit-4 : 128 < d → Decides limit-tree s true
         unfolding limit-tree above-limit
-        limit-4 td = record { is = λ ts ss e f. rw (no-names ts e, b-is false fb ts ss e f, c-is false fc ts ss e f, d-is true td ts ss e f) }
+        limit-4 td = record { is = λ ts ss e f. rw (no-names ts e, b-is false (le-ltb 512 b fb) ts ss e f, c-is false (le-ltb 128 c fc) ts ss e f, d-is true (lt-ltb 128 d td) ts ss e f) }
 
-        module _ (fd : d ≡ false) (g : Bool) (mg : Above s 0 1024 g) where
-          g-is : (t : Bool) → g ≡ t → (ts : List Token) (ss : Slots Written) → tokens class s ≡ some ts → parse (symbols ts) ≡ some ss → ltb 1024 (count (is-one expression) (pieces ss)) ≡ t
-          g-is t h ts ss e f = ap (ltb 1024) (sym (expressions-are ts ss f)) ∙ sym (mg .is ts e) ∙ h
+        module _ (fd : d ≤ 128) (g : ℕ) (mg : Sums s 0 g) where
+          g-is : (t : Bool) → ltb 1024 g ≡ t → (ts : List Token) (ss : Slots Written) → tokens class s ≡ some ts → parse (symbols ts) ≡ some ss → ltb 1024 (count (is-one expression) (pieces ss)) ≡ t
+          g-is t h ts ss e f = ap (ltb 1024) (sym (mg .is ts e ∙ expressions-are ts ss f)) ∙ h
 
-          pub limit-5 : g ≡ true → Decides limit-tree s true
+          pub limit-5 : 1024 < g → Decides limit-tree s true
           unfolding limit-tree above-limit
-          limit-5 tg = record { is = λ ts ss e f. rw (no-names ts e, b-is false fb ts ss e f, c-is false fc ts ss e f, d-is false fd ts ss e f, g-is true tg ts ss e f) }
+          limit-5 tg = record { is = λ ts ss e f. rw (no-names ts e, b-is false (le-ltb 512 b fb) ts ss e f, c-is false (le-ltb 128 c fc) ts ss e f, d-is false (le-ltb 128 d fd) ts ss e f, g-is true (lt-ltb 1024 g tg) ts ss e f) }
 
-          pub limit-6 : g ≡ false → (r : Bool) → Decides path-names-tree s r → Decides limit-tree s r
+          pub limit-6 : g ≤ 1024 → (r : Bool) → Decides path-names-tree s r → Decides limit-tree s r
           unfolding limit-tree above-limit path-names-tree
-          limit-6 fg r m = record { is = λ ts ss e f. rw (no-names ts e, b-is false fb ts ss e f, c-is false fc ts ss e f, d-is false fd ts ss e f, g-is false fg ts ss e f) (m .is ts ss e f) }
+          limit-6 fg r m = record { is = λ ts ss e f. rw (no-names ts e, b-is false (le-ltb 512 b fb) ts ss e f, c-is false (le-ltb 128 c fc) ts ss e f, d-is false (le-ltb 128 d fd) ts ss e f, g-is false (le-ltb 1024 g fg) ts ss e f) (m .is ts ss e f) }

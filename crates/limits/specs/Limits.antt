@@ -1,17 +1,13 @@
 -- Document 01, the table, numbers 7, 9, 10 and 12, of the tokens and the tree of a source. Assumes nothing.
-use mathlib.Core.Path.{_≡_}
 use mathlib.Core.Bool.{Bool}
 use mathlib.Core.List.{List}
-use mathlib.Core.Option.{some}
 use Prim.Native.Nat.{ℕ}
 use lib.Dec.{leb, ltb}
 use Rattle.framed.specs.Common.{any, count, total}
-use Rattle.framed.specs.Bytes.{class}
-use Rattle.framed.specs.Tokens.{Token, tokens}
+use Rattle.framed.specs.Tokens.{Token}
 use Rattle.framed.specs.Symbols.{name-table}
 use Rattle.framed.specs.Tree.{Written, Slots}
 use Rattle.framed.specs.Meaning.{pieces, misplaced, path-names, above-limit, too-far-up, frame-outside}
-use Rattle.sums.specs.Weights.{whole-sum}
 
 unfoldable pub misplaced-tree : List Token → Slots Written → Bool
 misplaced-tree ts ss = any misplaced (pieces ss)
@@ -27,7 +23,3 @@ far-tree ts ss = any too-far-up (pieces ss)
 
 unfoldable pub frames-tree : ℕ → List Token → Slots Written → Bool
 frames-tree F ts ss = leb F (count frame-outside (pieces ss))
-
--- where the source is tokens, the answer says whether their sum is above a limit
-pub record Above (s : List ℕ) (what limit : ℕ) (r : Bool) : Type 0 where
-  pub is : (ts : List Token) → tokens class s ≡ some ts → r ≡ ltb limit (whole-sum what ts)

@@ -93,7 +93,7 @@ module _ (s b e : List ℕ) (n k a p : ℕ) where
 -- ---- The loop
 
 -- names are only added
-grows : (table : List (List ℕ)) (ts : List Token) → length table ≤ length (names-after table ts)
+pub grows : (table : List (List ℕ)) (ts : List Token) → length table ≤ length (names-after table ts)
 unfolding names-after
 grows table [] = omega arith
 grows table (Token.name w ∷ ts) = go (any (same w) table) (grows table ts) (grows (table ++ (w ∷ [])) ts)
@@ -107,7 +107,7 @@ grows table (Token.string w ∷ ts) = grows table ts
 grows table (Token.code ∷ ts) = grows table ts
 grows table (Token.fixed f ∷ ts) = grows table ts
 
-names-other : (table : List (List ℕ)) (t : Token) (ts : List Token) → (token-kind t ≡ 25 → ⊥) → names-after table (t ∷ ts) ≡ names-after table ts
+pub names-other : (table : List (List ℕ)) (t : Token) (ts : List Token) → (token-kind t ≡ 25 → ⊥) → names-after table (t ∷ ts) ≡ names-after table ts
 unfolding names-after token-kind
 names-other table (Token.name w) ts n = absurd (n refl)
 names-other table (Token.integer z) ts n = refl
@@ -115,7 +115,7 @@ names-other table (Token.string w) ts n = refl
 names-other table Token.code ts n = refl
 names-other table (Token.fixed f) ts n = refl
 
-names-name : (s : List ℕ) (a p w : ℕ) (table : List (List ℕ)) (ts : List Token) →
+pub names-name : (s : List ℕ) (a p w : ℕ) (table : List (List ℕ)) (ts : List Token) →
     names-after table (token-of s 25 a p w ∷ ts) ≡ names-after (if any (same (part s a p)) table then table else table ++ (part s a p ∷ [])) ts
 unfolding names-after token-of
 names-name s a p w table ts = refl

@@ -1,4 +1,4 @@
--- One law for each way through `operand`. Assumes nothing.
+-- One law for each way through `from_self`, `from_program` and `operand`. Assumes nothing.
 use Prim.Native.Nat.{ℕ}
 use mathlib.Core.Path.{_≡_, refl, ap}
 use mathlib.Core.List.{List}
@@ -18,18 +18,20 @@ use Rattle.heap.specs.Words.{self-held, program-held}
 use Rattle.heap.specs.Held.{frames-held}
 use Rattle.paths.specs.declared.Fetched.{Fetched}
 use Rattle.paths.specs.Paths.{fetched, path-held}
+use Rattle.paths.proofs.Laws.{Walk, walk-start}
 use Rattle.trees.specs.Trees.{Readers, trees, levels, one-level, base-tree}
 use Rattle.trees.specs.Held.{base-held}
+use Rattle.trees.proofs.Held.{trees-one}
 use Rattle.operands.specs.Operands.{operand-value}
 use Rattle.operands.proofs.Lists.{same-path}
 
-trees-open : (p : List ℕ) → trees p ≡ one-level p (levels 599999 p)
-unfolding trees levels
-trees-open p = refl
+-- a walk starts at its root
+pub walk-root : (h p : List ℕ) (root v : Value) (j n : ℕ) → v ≡ root → Walk h p root j n v 0
+walk-root h p root v j n e = rw e (walk-start h p root j n)
 
 base-open : (p : List ℕ) (x : ℕ) → base-held p x ≡ base-tree (levels 599999 p) p (expression-at p x)
 unfolding base-held one-level
-base-open p x = ap (λ (r : Readers). r .base x) (trees-open p)
+base-open p x = ap (λ (r : Readers). r .base x) (trees-one p)
 
 module _ (p h : List ℕ) (x : ℕ) (e : ExpressionEntry) (at : e ≡ expression-at p x) where
   -- by the form of the entry; the instructions inside a code are not looked at
@@ -54,15 +56,15 @@ module _ (p h : List ℕ) (x : ℕ) (e : ExpressionEntry) (at : e ≡ expression
   unfolding base-value base-tree defined
   operand-code k is = rw (open-value (ExpressionEntry.Code k) is)
 
-  pub operand-self : (j n : ℕ) (v : Value) (r : Fetched) → e ≡ ExpressionEntry.FromSelf j n → v ≡ self-held h
-      → fetched r ≡ fetch (frames-held h) v (path-held p j n) → defined (fetched r) ≡ operand-value p h x
+  pub operand-self : (j n : ℕ) (r : Fetched) → e ≡ ExpressionEntry.FromSelf j n
+      → fetched r ≡ fetch (frames-held h) (self-held h) (path-held p j n) → defined (fetched r) ≡ operand-value p h x
   unfolding base-value base-tree
-  operand-self j n v r is ev er = rw (open-value (ExpressionEntry.FromSelf j n) is, same-path p j n, er, ev)
+  operand-self j n r is er = rw (open-value (ExpressionEntry.FromSelf j n) is, same-path p j n, er)
 
-  pub operand-program : (j n : ℕ) (v : Value) (r : Fetched) → e ≡ ExpressionEntry.FromProgram j n → v ≡ program-held h
-      → fetched r ≡ fetch (frames-held h) v (path-held p j n) → defined (fetched r) ≡ operand-value p h x
+  pub operand-program : (j n : ℕ) (r : Fetched) → e ≡ ExpressionEntry.FromProgram j n
+      → fetched r ≡ fetch (frames-held h) (program-held h) (path-held p j n) → defined (fetched r) ≡ operand-value p h x
   unfolding base-value base-tree
-  operand-program j n v r is ev er = rw (open-value (ExpressionEntry.FromProgram j n) is, same-path p j n, er, ev)
+  operand-program j n r is er = rw (open-value (ExpressionEntry.FromProgram j n) is, same-path p j n, er)
 
   -- an entry that is no base
   pub operand-frame : (d : ℕ) → e ≡ ExpressionEntry.Frame d → defined (fetched (Fetched.Found (Value.Int (pos 0)))) ≡ operand-value p h x

@@ -5,8 +5,43 @@ use paths::Fetched;
 use tables::ExpressionEntry;
 ghost use mathlib.Core.Path.{_≡_};
 ghost use Rattle.framed.specs.Machine.{defined};
-ghost use Rattle.paths.specs.Paths.{fetched};
+ghost use Rattle.framed.specs.Fetch.{fetch};
+ghost use Rattle.heap.specs.Words.{self-held, program-held};
+ghost use Rattle.heap.specs.Held.{frames-held};
+ghost use Rattle.paths.specs.Paths.{fetched, path-held};
 ghost use Rattle.operands.specs.Operands.{operand-value};
+
+// Fetch from self along the n path names from j on. As `paths::fetch`; a function with one caller becomes part of it, and this is where a step spends its time.
+fn from_self(p: &[u32], h: &[u32], j: u32, n: u32) -> Fetched
+    ensures { λ r. ⌜ fetched r ≡ fetch (frames-held (now (h .entry))) (self-held (now (h .entry))) (path-held (now (p .entry)) j n) ⌝ }
+{
+    let mut v = heap::self_value(h);
+    let mut i = 0u32;
+    while i < n {
+        let Fetched::Found(w) = paths::get(h, v, paths::path_name_after(p, j, i)) else {
+            return Fetched::Undefined;
+        };
+        v = w;
+        i += 1;
+    }
+    Fetched::Found(v)
+}
+
+// The same from the program.
+fn from_program(p: &[u32], h: &[u32], j: u32, n: u32) -> Fetched
+    ensures { λ r. ⌜ fetched r ≡ fetch (frames-held (now (h .entry))) (program-held (now (h .entry))) (path-held (now (p .entry)) j n) ⌝ }
+{
+    let mut v = heap::program_value(h);
+    let mut i = 0u32;
+    while i < n {
+        let Fetched::Found(w) = paths::get(h, v, paths::path_name_after(p, j, i)) else {
+            return Fetched::Undefined;
+        };
+        v = w;
+        i += 1;
+    }
+    Fetched::Found(v)
+}
 
 // Undefined where the end is 31.
 pub fn operand(p: &[u32], h: &[u32], x: u32) -> Fetched
@@ -16,8 +51,8 @@ pub fn operand(p: &[u32], h: &[u32], x: u32) -> Fetched
     match e {
         ExpressionEntry::Integer(w) => Fetched::Found(Value::Int(ints::int_of(w))),
         ExpressionEntry::Literal(k) => Fetched::Found(Value::Text(Text::Literal(k))),
-        ExpressionEntry::FromSelf(j, n) => paths::fetch(p, h, heap::self_value(h), j, n),
-        ExpressionEntry::FromProgram(j, n) => paths::fetch(p, h, heap::program_value(h), j, n),
+        ExpressionEntry::FromSelf(j, n) => from_self(p, h, j, n),
+        ExpressionEntry::FromProgram(j, n) => from_program(p, h, j, n),
         ExpressionEntry::Code(k) => Fetched::Found(Value::Code(k)),
         ExpressionEntry::Frame(_) => Fetched::Found(Value::Int(0)),
         ExpressionEntry::Not(_) => Fetched::Found(Value::Int(0)),

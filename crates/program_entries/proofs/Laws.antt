@@ -1,10 +1,14 @@
 -- One law for each way through the functions: loops along slots, the tests of an entry by its form. Assumes nothing.
-use mathlib.Core.Path.{_≡_}
+use mathlib.Core.Path.{_≡_, sym, ap, _∙_}
 use mathlib.Core.Bool.{Bool, true, false, _&&_, _||_}
 use mathlib.Core.List.{List}
-use Prim.Native.Nat.{ℕ, _+_, _≤_, _<_}
+use Prim.Native.Nat.{ℕ, _+_, _-_, _≤_, _<_}
+use native.Mathlib.Omega.{arith}
 use lib.Dec.{eqb, ltb, leb}
-use Rattle.tables.proofs.Walks.{Along, along-more, along-all, along-place}
+use Rattle.words.specs.Words.{all-below}
+use Rattle.program_names.proofs.Laws.{and-true, upto-rest}
+use Rattle.tables.proofs.Walks.{Along, along-more, along-all, along-place, walk-past}
+use Rattle.tables.specs.Fields.{slot-walk}
 use Rattle.tables.specs.declared.ExpressionEntry.{ExpressionEntry}
 use Rattle.tables.specs.declared.InstructionEntry.{InstructionEntry}
 use Rattle.tables.specs.Fields.{literals, codes, path-names, follow-slot}
@@ -13,7 +17,17 @@ use Rattle.program_entries.specs.Tests.{frame-ok, base-ok, operate-ok, e
 use Rattle.program_names.specs.Tests.{limits-ok}
 use Rattle.program_entries.specs.Tests.{tables-ok, entries-ok}
 
--- ---- The loops along slots
+-- ---- The loops along slots. Where the slots end, the place is 0 from there on, and the test of what is not there holds.
+
+ended : (p : List ℕ) (z i j : ℕ) → slot-walk p z i ≡ 0 → i ≤ j → slot-walk p z j ≡ 0
+ended p z i j e le = let q : j ≡ i + (j - i) = omega arith in ap (slot-walk p z) q ∙ walk-past p z i (j - i) e
+
+module _ (p : List ℕ) (z : ℕ) (t : ℕ → Bool) (i y : ℕ) (ok : Bool) (u : Along p z t i y ok) (none : y ≡ 0) where
+  along-ended : ((j : ℕ) → slot-walk p z j ≡ 0 → t j ≡ true) → ok ≡ all-below t 16
+  along-ended f = upto-rest t 16 i ok (record { inside = u .inside; so-far = u .so-far }) (λ j le. f j (ended p z i j (sym (u .here) ∙ none) le))
+
+  along-last : slot-walk p z 16 ≡ 0
+  along-last = ended p z i 16 (sym (u .here) ∙ none) (u .inside)
 
 module _ (p : List ℕ) (n z i y w : ℕ) (ok b : Bool) (u : Along p z (other-name-at p n z) i y ok) where
   pub other-again : i < 16 → b ≡ other-name p n y → w ≡ follow-slot p y → Along p z (other-name-at p n z) (i + 1) w (ok && b)
@@ -24,6 +38,10 @@ module _ (p : List ℕ) (n z i y w : ℕ) (ok b : Bool) (u : Along p z (other-na
   unfolding other-names
   other-done le = along-all p z (other-name-at p n z) i y ok u le
 
+pub other-ended : (p : List ℕ) (n z i y : ℕ) (ok : Bool) → Along p z (other-name-at p n z) i y ok → y ≡ 0 → ok ≡ other-names p n z
+unfolding other-names other-name-at other-name
+other-ended p n z i y ok u e = along-ended p z (other-name-at p n z) i y ok u e (λ j q. rw q)
+
 module _ (p : List ℕ) (z i y w : ℕ) (ok b : Bool) (u : Along p z (slot-at-ok p z) i y ok) where
   pub slot-again : i < 16 → b ≡ slot-ok p y → w ≡ follow-slot p y → Along p z (slot-at-ok p z) (i + 1) w (ok && b)
   unfolding slot-at-ok
@@ -33,6 +51,11 @@ module _ (p : List ℕ) (z i y : ℕ) (ok : Bool) (u : Along p z (slot-at-ok p z
   pub slots-done : 16 ≤ i → ok && eqb y 0 ≡ slots-ok p z
   unfolding slots-ok
   slots-done le = rw (along-place p z (slot-at-ok p z) i y ok u le, along-all p z (slot-at-ok p z) i y ok u le)
+
+pub slots-ended : (p : List ℕ) (z i y : ℕ) (ok : Bool) → Along p z (slot-at-ok p z) i y ok → y ≡ 0 → ok ≡ slots-ok p z
+unfolding slots-ok slot-at-ok slot-ok
+slots-ended p z i y ok u e =
+    rw (along-last p z (slot-at-ok p z) i y ok u e, ← along-ended p z (slot-at-ok p z) i y ok u e (λ j q. rw q)) (sym (and-true ok))
 
 -- ---- Sums that are widened first
 

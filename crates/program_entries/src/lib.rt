@@ -59,6 +59,9 @@ fn other_names(p: &[u32], n: u32, z: u32) -> bool
     let mut y = z;
     let mut j = 0u32;
     while j < 16 {
+        if y == 0 {
+            return ok;
+        }
         ok = ok & other_name(p, n, y);
         y = follow_slot(p, y);
         j += 1;
@@ -83,6 +86,9 @@ fn slots_ok(p: &[u32], z: u32) -> bool
     let mut y = z;
     let mut j = 0u32;
     while j < 16 {
+        if y == 0 {
+            return ok;
+        }
         ok = ok & slot_ok(p, y);
         y = follow_slot(p, y);
         j += 1;

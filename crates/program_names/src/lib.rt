@@ -15,7 +15,7 @@ use tables::start;
 use tables::text_limit;
 ghost use mathlib.Core.Path.{_≡_};
 ghost use Rattle.framed.specs.Bytes.{string-byte};
-ghost use Rattle.program_names.specs.Tests.{limits-ok, name-byte-ok, name-bytes-ok, same-byte, same-bytes, names-differ, new-name, name-ok};
+ghost use Rattle.program_names.specs.Tests.{limits-ok, name-byte-ok, name-bytes-ok, same-bytes, names-differ, new-name, name-ok};
 ghost use Rattle.program_names.specs.Tests.{names-ok, literal-byte-ok, literal-bytes-ok, literal-ok, literals-ok, path-name-ok, path-names-ok, texts-ok};
 
 pub fn limits_ok(p: &[u32]) -> bool
@@ -42,37 +42,44 @@ fn name_byte_ok(p: &[u32], k: u32, i: u32) -> bool
 fn name_bytes_ok(p: &[u32], k: u32) -> bool
     ensures { λ r. ⌜ r ≡ name-bytes-ok (now (p .entry)) k ⌝ }
 {
+    let n = name_length(p, k);
     let mut ok = true;
-    let mut i = 0;
+    let mut i = 0u32;
     while i < 16 {
+        if n <= i {
+            return ok;
+        }
         ok = ok & name_byte_ok(p, k, i);
         i += 1;
     }
     ok
 }
 
-fn same_byte(p: &[u32], k: u32, j: u32, i: u32) -> bool
-    ensures { λ r. ⌜ r ≡ same-byte (now (p .entry)) k j i ⌝ }
-{
-    (name_byte(p, k, i) == name_byte(p, j, i)) | (name_length(p, k) <= i)
-}
-
+// up to the end of name k, or to the first byte that differs
 fn same_bytes(p: &[u32], k: u32, j: u32) -> bool
     ensures { λ r. ⌜ r ≡ same-bytes (now (p .entry)) k j ⌝ }
 {
-    let mut ok = true;
-    let mut i = 0;
+    let n = name_length(p, k);
+    let mut i = 0u32;
     while i < 16 {
-        ok = ok & same_byte(p, k, j, i);
+        if n <= i {
+            return true;
+        }
+        if name_byte(p, k, i) != name_byte(p, j, i) {
+            return false;
+        }
         i += 1;
     }
-    ok
+    true
 }
 
 fn names_differ(p: &[u32], k: u32, j: u32) -> bool
     ensures { λ r. ⌜ r ≡ names-differ (now (p .entry)) k j ⌝ }
 {
-    !((name_length(p, k) == name_length(p, j)) & same_bytes(p, k, j))
+    if name_length(p, k) != name_length(p, j) {
+        return true;
+    }
+    !same_bytes(p, k, j)
 }
 
 // no name before k is name k
@@ -123,9 +130,13 @@ fn literal_byte_ok(p: &[u32], l: &[u8], k: u32, i: u32) -> bool
 fn literal_bytes_ok(p: &[u32], l: &[u8], k: u32) -> bool
     ensures { λ r. ⌜ r ≡ literal-bytes-ok (now (p .entry)) (now (l .entry)) k ⌝ }
 {
+    let n = literal_length(p, k);
     let mut ok = true;
-    let mut i = 0;
+    let mut i = 0u32;
     while i < 64 {
+        if n <= i {
+            return ok;
+        }
         ok = ok & literal_byte_ok(p, l, k, i);
         i += 1;
     }

@@ -12,19 +12,19 @@ use Rattle.heap.specs.Held.{frames-in-use, texts-in-use}
 use Rattle.collector.specs.Collect.{Collection, collection, collect-heap}
 use Rattle.reserving.specs.Reserving.{room-end-held, reserved-words, Reserves}
 
-module _ (p h : List ℕ) (f n F c : ℕ) (b : Bool) (eF : F ≡ frame-limit p) (ec : c ≡ length (frames-in-use h)) (eb : b ≡ ltb F (c + f)) where
+module _ (p h : List ℕ) (f n F : ℕ) (b : Bool) (eF : F ≡ frame-limit p) (eb : b ≡ ltb F (length (frames-in-use h) + f)) where
   pub no-frames : b ≡ true → 36 ≡ room-end-held p h f n
   unfolding room-end-held
-  no-frames e = rw (← eF, ← ec, ← eb, e)
+  no-frames e = rw (← eF, ← eb, e)
 
-  module _ (e : b ≡ false) (T d : ℕ) (a : Bool) (eT : T ≡ text-limit p) (ed : d ≡ length (texts-in-use h)) (ea : a ≡ ltb T (d + n)) where
+  module _ (e : b ≡ false) (T : ℕ) (a : Bool) (eT : T ≡ text-limit p) (ea : a ≡ ltb T (length (texts-in-use h) + n)) where
     pub no-texts : a ≡ true → 37 ≡ room-end-held p h f n
     unfolding room-end-held
-    no-texts z = rw (← eF, ← ec, ← eb, e, ← eT, ← ed, ← ea, z)
+    no-texts z = rw (← eF, ← eb, e, ← eT, ← ea, z)
 
     pub has-room : a ≡ false → 0 ≡ room-end-held p h f n
     unfolding room-end-held
-    has-room z = rw (← eF, ← ec, ← eb, e, ← eT, ← ed, ← ea, z)
+    has-room z = rw (← eF, ← eb, e, ← eT, ← ea, z)
 
 module _ (p h : List ℕ) (f n r : ℕ) (er : r ≡ room-end-held p h f n) where
   pub reserve-room : r ≡ 0 → Reserves p h f n 0 h

@@ -2,15 +2,15 @@
 use mathlib.Core.Path.{_≡_, refl, sym, ap, _∙_}
 use mathlib.Core.Bool.{Bool, true, false, _&&_, _||_, false≢true}
 use mathlib.Core.List.{List, [], _∷_, _++_}
-use mathlib.Core.Option.{some}
+use mathlib.Core.Option.{Option, none, some}
 use Prim.Native.Nat.{ℕ, _+_, _-_, _<_, _≤_}
 use native.Mathlib.Omega.{arith}
 use lib.Dec.{eqb, ltb}
 use lib.ListN.{length}
-use borrow.Author.Tests.{ne-eqb, lt-ltb, le-ltb, eqb-true, eqb-false, ltb-true, ltb-false}
+use borrow.Author.Tests.{eq-eqb, ne-eqb, lt-ltb, le-ltb, eqb-true, eqb-false, ltb-true, ltb-false}
 use Rattle.framed.specs.Common.{if_then_else_, any, same}
 use Rattle.framed.specs.Bytes.{class}
-use Rattle.framed.specs.Tokens.{Token, tokens}
+use Rattle.framed.specs.Tokens.{Token, tokens, prepend}
 use Rattle.framed.specs.Symbols.{symbols}
 use Rattle.framed.proofs.ParseExact.{parse-sound}
 use Rattle.source.specs.Positions.{rest, part}
@@ -19,13 +19,15 @@ use Rattle.words.proofs.Laws.{set-size}
 use Rattle.token.specs.Reading.{token-of, TokenAt, Spot}
 use Rattle.token.specs.declared.TokenRead.{TokenRead}
 use Rattle.token.proofs.KindNumbers.{kind-is}
-use Rattle.token.proofs.Answers.{spot-of}
+use Rattle.token.proofs.Answers.{spot-of, tokens-at-token}
 use Rattle.scan.specs.Scan.{depth-after, NotHuge}
 use Rattle.sweep.specs.Decides.{Decides}
-use Rattle.sweep.proofs.Loop.{Going, Gives, go-start, go-end, go-none, go-done, go-again, go-early}
+use Rattle.sweep.proofs.Loop.{over, Going, Gives, go-start, go-end, go-none, go-done, go-again, go-early}
 use Rattle.names.specs.Kept.{table-of}
 use Rattle.names.proofs.Laws.{table-length, table-more}
 use Rattle.slots.specs.Own.{closes, names-slot, own-slots, own-names, repeats, bytes-of, bad-slots, bad-frames, Added, BadSlots, OpensBad, bad-tree}
+use Rattle.slots.specs.Checks.{frames-bad, Clear, clear-after, Checks, Opens}
+use Rattle.slots.specs.declared.Checked.{Checked}
 use Rattle.slots.proofs.Bad.{tree-bad}
 
 -- ---- One token
@@ -214,14 +216,63 @@ module _ (s : List ℕ) (from : ℕ) (b e : List ℕ) (n d l at : ℕ) (i : Coll
             going = rw ed (go-again _ s from _ at (i .going) r found k a p w h _ (λ us f. after .step us ∙ rw (le-ltb 16 n' m)));
           }
 
+-- ---- Where no frame begins
+
+module _ (p at k end : ℕ) where
+  pub clear-other : (p ≡ at → ⊥) → p ≡ clear-after p at k end
+  unfolding clear-after
+  clear-other n = rw (ne-eqb p at n)
+
+  pub clear-frame : p ≡ at → k ≡ 12 → p ≡ clear-after p at k end
+  unfolding clear-after
+  clear-frame e f = rw (eq-eqb p at e, eq-eqb k 12 f)
+
+  pub clear-more : p ≡ at → (k ≡ 12 → ⊥) → end ≡ clear-after p at k end
+  unfolding clear-after
+  clear-more e f = rw (eq-eqb p at e, ne-eqb k 12 f)
+
+pub clear-start : (s : List ℕ) (from : ℕ) → Clear s from from
+clear-start s from = record { begins = omega arith; rest-is = refl }
+
+-- a token that opens no frame
+passed : (s : List ℕ) (k a p w : ℕ) → k < 29 → (k ≡ 12 → ⊥) → (o : Option (List Token)) → frames-bad (prepend (token-of s k a p w) o) ≡ frames-bad o
+unfolding frames-bad prepend bad-frames
+passed s k a p w l n none = refl
+passed s k a p w l n (some us) = rw (kind-is s a p w k l, ne-eqb k 12 n)
+
+pub clear-again : (s : List ℕ) (from p at : ℕ) → Clear s from p → (r : TokenRead) → TokenAt class s at r → (k a e w : ℕ) → r ≡ TokenRead.Token k a e w → (q : ℕ) → q ≡ clear-after p at k e → Clear s from q
+unfolding clear-after
+clear-again s from p at c r found k a e w h q is = go (eqb p at) refl (eqb k 12) refl is
+  where
+    go : (t : Bool) → eqb p at ≡ t → (u : Bool) → eqb k 12 ≡ u → q ≡ (if t then (if u then p else e) else p) → Clear s from q
+    go false et u eu is = rw is c
+    go true et true eu is = rw is c
+    go true et false eu is =
+        let spot : Spot at (length s) k a e = spot-of r (found .on) h in
+        rw is (record {
+          begins = omega (arith, c .begins, eqb-true p at et, spot .begins, spot .more);
+          rest-is = sym (passed s k a e w (spot .known) (eqb-false k 12 eu) (tokens class (rest s e)))
+              ∙ ap frames-bad (sym (tokens-at-token class s at r found k a e w h))
+              ∙ ap (λ (i : ℕ). frames-bad (tokens class (rest s i))) (sym (eqb-true p at et))
+              ∙ c .rest-is;
+        })
+
+pub checks : (s : List ℕ) (from p : ℕ) (b : Bool) → BadSlots s from b → Clear s from p → Checks s from (record { bad = b; clear = p })
+checks s from p b m c = record { bad-is = m; clear-is = c }
+
 -- ---- The loop over all frames
 
 module _ (s : List ℕ) (k end : ℕ) where
-  pub opens-frame : k ≡ 12 → (r : Bool) → BadSlots s end r → OpensBad s k end r
-  opens-frame e r m = record { is = λ ts f. m .is ts f ∙ rw e }
+  pub opens-frame : k ≡ 12 → (r : Checked) → Checks s end r → Opens s k end r
+  opens-frame e r m = record { bad-is = record { is = λ ts f. m .bad-is .is ts f ∙ rw e }; clear-is = m .clear-is }
 
-  pub opens-not : (k ≡ 12 → ⊥) → OpensBad s k end false
-  opens-not n = record { is = λ ts f. rw (ne-eqb k 12 n) }
+  pub opens-not : (k ≡ 12 → ⊥) → Opens s k end (record { bad = false; clear = end })
+  opens-not n = record { bad-is = record { is = λ ts f. rw (ne-eqb k 12 n) }; clear-is = clear-start s end }
+
+over-is : (o : Option (List Token)) → over bad-frames o ≡ frames-bad o
+unfolding over frames-bad
+over-is none = refl
+over-is (some ts) = refl
 
 pub record Passing (s : List ℕ) (at : ℕ) : Type 0 where
   pub going : Going bad-frames s 0 bad-frames at
@@ -246,13 +297,20 @@ module _ (s : List ℕ) (at : ℕ) (i : Passing s at) where
     pub pass-none : r ≡ TokenRead.NoToken → Decides bad-tree s false
     pass-none h = decided s false (go-none _ s 0 _ at (i .going) r found h false)
 
-    module _ (k a p w : ℕ) (h : r ≡ TokenRead.Token k a p w) (t : Bool) (o : OpensBad s k p t) where
-      step : (us : List Token) → tokens class (rest s p) ≡ some us → bad-frames (token-of s k a p w ∷ us) ≡ (t || bad-frames us)
+    module _ (k a p w : ℕ) (h : r ≡ TokenRead.Token k a p w) (v : Checked) (o : Opens s k p v) where
+      step : (us : List Token) → tokens class (rest s p) ≡ some us → bad-frames (token-of s k a p w ∷ us) ≡ (v .bad || bad-frames us)
       unfolding bad-frames
-      step us f = rw (kind-is s a p w k (spot-of r (found .on) h .known), o .is us f)
+      step us f = rw (kind-is s a p w k (spot-of r (found .on) h .known), o .bad-is .is us f)
 
-      pub pass-bad : t ≡ true → Decides bad-tree s true
+      pub pass-bad : v .bad ≡ true → Decides bad-tree s true
       pass-bad x = decided s true (go-early _ s 0 _ at (i .going) r found k a p w h true (λ us f. step us f ∙ rw x))
 
-      pub pass-again : t ≡ false → Passing s p
-      pass-again x = record { going = go-again _ s 0 _ at (i .going) r found k a p w h _ (λ us f. step us f ∙ rw x) }
+      pub pass-again : v .bad ≡ false → Passing s (v .clear)
+      pass-again x = record {
+        going = record {
+          same = over-is _ ∙ o .clear-is .rest-is ∙ sym (over-is _) ∙ go-again _ s 0 _ at (i .going) r found k a p w h _ (λ us f. step us f ∙ rw x) .same;
+        };
+      }
+
+      pub pass-less : at < length s → length s - v .clear < length s - at
+      pass-less l = let spot = spot-of r (found .on) h in omega (arith, o .clear-is .begins, spot .begins, spot .more)

@@ -6,7 +6,8 @@ ghost use Rattle.source.specs.Positions.{part};
 ghost use Rattle.scan.specs.Scan.{depth-after, NotHuge};
 ghost use Rattle.sweep.specs.Decides.{Decides};
 ghost use Rattle.names.specs.Kept.{table-of};
-ghost use Rattle.slots.specs.Own.{closes, names-slot, Added, BadSlots, OpensBad, bad-tree};
+ghost use Rattle.slots.specs.Own.{closes, names-slot, Added, bad-tree};
+ghost use Rattle.slots.specs.Checks.{clear-after, Checks, Opens};
 use token::TokenRead;
 
 // A token of kind k closes the frame.
@@ -93,53 +94,77 @@ fn add_slot(
     n
 }
 
-// The frame whose slots begin there has a name twice or more than 16 slots.
-fn bad_slots(s: &[u8], from: usize) -> bool
-    ensures { λ r. ⌜ BadSlots (now (s .entry)) from r ⌝ }
+// What is known of a frame: whether it has a name twice or more than 16 slots, and a position before which no frame begins in it.
+pub struct Checked {
+    pub bad: bool,
+    pub clear: usize,
+}
+
+// No frame begins before `clear`: how far that holds after a token of kind k from `at` to `end`.
+fn clear_after(clear: usize, at: usize, k: u32, end: usize) -> usize
+    ensures { λ r. ⌜ r ≡ clear-after clear at k end ⌝ }
+{
+    if clear != at {
+        return clear;
+    }
+    if k == 12 {
+        return clear;
+    }
+    end
+}
+
+// The frame whose slots begin there.
+fn bad_slots(s: &[u8], from: usize) -> Checked
+    ensures { λ r. ⌜ Checks (now (s .entry)) from r ⌝ }
 {
     let mut begins = [0usize; 17];
     let mut ends = [0usize; 17];
     let mut n = 0;
     let mut depth = 0;
     let mut last = 0;
+    let mut clear = from;
     let mut at = from;
     while at < s.len() {
         match token::token_at(s, at) {
             TokenRead::End => {
-                return false;
+                return Checked { bad: false, clear };
             }
             TokenRead::NoToken => {
-                return false;
+                return Checked { bad: false, clear };
             }
             TokenRead::Token(k, begin, end, _word) => {
                 if closes(depth, k) {
-                    return false;
+                    return Checked { bad: false, clear };
                 }
                 let slot = names_slot(depth, last, k);
                 if repeated(s, &begins, &ends, n, slot, begin, end) {
-                    return true;
+                    return Checked { bad: true, clear };
                 }
                 n = add_slot(&mut begins, &mut ends, n, slot, begin, end);
                 if 16 < n {
-                    return true;
+                    return Checked { bad: true, clear };
                 }
+                clear = clear_after(clear, at, k, end);
                 depth = depth_after(depth, k);
                 last = k;
                 at = end;
             }
         }
     }
-    false
+    Checked { bad: false, clear }
 }
 
-// A token of kind k opens such a frame.
-fn opens_bad(s: &[u8], k: u32, end: usize) -> bool
-    ensures { λ r. ⌜ OpensBad (now (s .entry)) k end r ⌝ }
+// A token of kind k opens such a frame; where it opens none, no frame begins before its end.
+fn opens_bad(s: &[u8], k: u32, end: usize) -> Checked
+    ensures { λ r. ⌜ Opens (now (s .entry)) k end r ⌝ }
 {
     if k == 12 {
         return bad_slots(s, end);
     }
-    false
+    Checked {
+        bad: false,
+        clear: end,
+    }
 }
 
 // Some frame has a name twice or more than 16 slots.
@@ -156,10 +181,11 @@ pub fn bad_frame(s: &[u8]) -> bool
                 return false;
             }
             TokenRead::Token(k, _begin, end, _word) => {
-                if opens_bad(s, k, end) {
+                let r = opens_bad(s, k, end);
+                if r.bad {
                     return true;
                 }
-                at = end;
+                at = r.clear;
             }
         }
     }

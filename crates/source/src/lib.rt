@@ -2,6 +2,7 @@
 ghost use mathlib.Core.Path.{_≡_};
 ghost use Rattle.framed.specs.Bytes.{class};
 ghost use Rattle.source.specs.Positions.{byte};
+ghost use Rattle.source.specs.Classified.{Classified};
 
 // The class of each byte: 1 space, 2 letter, 3 digit, 4 mark, 0 the rest.
 const CLASS: [u8; 256] = [
@@ -263,12 +264,28 @@ const CLASS: [u8; 256] = [
     0,
 ];
 
-// The class of a byte. All reading of tokens takes the classes from here.
-pub fn class_of(b: u8) -> u8
+// The table, for code that reads many bytes. All reading of tokens takes the classes from here.
+pub fn classes() -> [u8; 256]
+    ensures { λ r. ⌜ Classified r ⌝ }
+{
+    CLASS
+}
+
+// The class of a byte, from the table.
+pub fn class_in(t: &[u8; 256], b: u8) -> u8
+    requires { ⌜ Classified (now t) ⌝ }
     ensures { λ r. ⌜ r ≡ class b ⌝ }
 {
     let i = b as usize;
-    CLASS[i]
+    t[i]
+}
+
+// The class of one byte.
+pub fn class_of(b: u8) -> u8
+    ensures { λ r. ⌜ r ≡ class b ⌝ }
+{
+    let t = classes();
+    class_in(&t, b)
 }
 
 // The byte at a position, and 0 past the end.

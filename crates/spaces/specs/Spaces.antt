@@ -6,7 +6,8 @@ use Prim.Native.Nat.{ℕ, suc, _≤_, max}
 use lib.ListN.{length}
 use Rattle.framed.specs.Bytes.{Classes}
 use Rattle.framed.specs.Tokens.{skip, skip-comment}
-use Rattle.source.specs.Positions.{rest, byte}
+use Rattle.source.specs.Positions.{rest, byte, At}
+use Rattle.source.specs.Classified.{Classified}
 
 -- a comment that goes on at i ends at j: after byte 10, or where the source ends
 pub data LineEnds (s : List ℕ) : ℕ → Type 0 where
@@ -18,6 +19,11 @@ pub record CommentEnds (c : Classes) (s : List ℕ) (i j : ℕ) : Type 0 where
   pub inside : j ≤ max i (length s)
   pub ends : LineEnds s j
   pub gone : skip-comment c (rest s i) ≡ skip c (rest s j)
+
+-- the table of classes, and a position inside the source
+pub record CanSkip (t s : List ℕ) (i : ℕ) : Type 0 where
+  pub table : Classified t
+  pub at : At s i
 
 -- one space or one comment is passed, or nothing is
 pub record SkipsOne (c : Classes) (s : List ℕ) (i j : ℕ) : Type 0 where

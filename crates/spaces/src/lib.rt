@@ -1,8 +1,7 @@
 // Spaces and comments of a source.
 ghost use mathlib.Core.Path.{_≡_};
 ghost use Rattle.framed.specs.Bytes.{class};
-ghost use Rattle.source.specs.Positions.{At};
-ghost use Rattle.spaces.specs.Spaces.{CommentEnds, SkipsOne, Skips};
+ghost use Rattle.spaces.specs.Spaces.{CommentEnds, CanSkip, SkipsOne, Skips};
 
 // The position after the line, where a comment ends.
 fn comment_end(s: &[u8], at: usize) -> usize
@@ -20,12 +19,12 @@ fn comment_end(s: &[u8], at: usize) -> usize
 }
 
 // The position after one space or one comment; the position itself where none stands there.
-fn skip_one(s: &[u8], at: usize) -> usize
-    requires { ⌜ At (now s) at ⌝ }
+fn skip_one(t: &[u8; 256], s: &[u8], at: usize) -> usize
+    requires { ⌜ CanSkip (now t) (now s) at ⌝ }
     ensures { λ r. ⌜ SkipsOne class (now (s .entry)) at r ⌝ }
 {
     let b = source::byte_at(s, at);
-    let k = source::class_of(b);
+    let k = source::class_in(t, b);
     if k == 1 {
         return at + 1;
     }
@@ -43,9 +42,10 @@ fn skip_one(s: &[u8], at: usize) -> usize
 pub fn skip(s: &[u8], at: usize) -> usize
     ensures { λ r. ⌜ Skips class (now (s .entry)) at r ⌝ }
 {
+    let classes = source::classes();
     let mut i = at;
     while i < s.len() {
-        let j = skip_one(s, i);
+        let j = skip_one(&classes, s, i);
         if j == i {
             return i;
         }

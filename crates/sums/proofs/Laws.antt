@@ -19,6 +19,8 @@ use Rattle.sweep.specs.Kinds.{kinds}
 use Rattle.sweep.specs.Decides.{Short}
 use Rattle.sweep.proofs.Loop.{Going, Gives, go-start, go-end, go-none, go-done, go-again}
 use Rattle.sums.specs.Weights.{one-if, opened, closed, curly-after, square-after, further-after, expression-weight, plain-weight, mark-weight, placed-weight, up-weight, path-weight, weight, sum-of, whole-sum, NotHuge, Sums}
+use Rattle.sums.specs.Totals.{Totalled, nothing, Added, Room, Rooms}
+use Rattle.sums.specs.declared.Totals.{Totals}
 
 module _ (a b : ℕ) where
   pub one-yes : a ≡ b → 1 ≡ one-if a b
@@ -325,8 +327,8 @@ module _ (s : List ℕ) (what at n c q f l : ℕ) (i : Summing s what at n c q f
   pub sum-further : Short s → at < length s → NotHuge f
   sum-further h l = record { small = omega (arith, h .short, i .few-further) }
 
-  pub sum-room : Short s → at < length s → (d k : ℕ) → d ≡ weight what c q f l k → n + d < 18446744073709551616
-  sum-room h m d k e = omega (arith, weight-small what c q f l k, i .few, i .few-square, h .short)
+  pub sum-room : Short s → at < length s → Room n q
+  sum-room h m = record { few = omega (arith, h .short, i .few-square); room = omega (arith, h .short, i .few) }
 
   module _ (r : TokenRead) (found : TokenAt class s at r) where
     pub sum-end : r ≡ TokenRead.End → Sums s what n
@@ -343,12 +345,98 @@ module _ (s : List ℕ) (what at n c q f l : ℕ) (i : Summing s what at n c q f
       unfolding left-sum sum-of kinds
       step us = rw (kind-is s a p w k (spot .known)) (omega arith)
 
-      pub sum-again : (d f' q' c' : ℕ) → Short s → at < length s → d ≡ weight what c q f l k → f' ≡ further-after l f k → q' ≡ square-after c q k → c' ≡ curly-after c k →
-          Summing s what p (n + d) c' q' f' k
-      sum-again d f' q' c' h m ed ef eq ec = record {
+      pub sum-again : (m f' q' c' : ℕ) → Short s → at < length s → m ≡ n + weight what c q f l k → f' ≡ further-after l f k → q' ≡ square-after c q k → c' ≡ curly-after c k →
+          Summing s what p m c' q' f' k
+      sum-again m f' q' c' h v em ef eq ec = record {
         few-curly = omega (arith, curly-small c k, i .few-curly, spot .begins, spot .more);
         few-square = omega (arith, square-small c q k, i .few-square, spot .begins, spot .more);
         few-further = omega (arith, further-small l f k, i .few-further, spot .begins, spot .more);
         few = omega (arith, weight-small what c q f l k, i .few, i .few-square, h .short, spot .begins, spot .more);
-        going = rw (ed, ef, eq, ec) (go-again _ s 0 _ at (i .going) r found k a p w e _ (λ us f. step us));
+        going = rw (em, ef, eq, ec) (go-again _ s 0 _ at (i .going) r found k a p w e _ (λ us f. step us));
       }
+
+pub plus-room : (n what c q f l k d : ℕ) → Room n q → d ≡ weight what c q f l k → n + d < 18446744073709551616
+plus-room n what c q f l k d h e = omega (arith, weight-small what c q f l k, h .few, h .room)
+
+pub not-huge : (n q : ℕ) → Room n q → NotHuge q
+not-huge n q h = record { small = omega (arith, h .few) }
+
+-- ---- The nine sums
+
+pub record Tallying (s : List ℕ) (at : ℕ) (t : Totals) (c q f l : ℕ) : Type 0 where
+  pub expressions : Summing s 0 at (t .expressions) c q f l
+  pub instructions : Summing s 1 at (t .instructions) c q f l
+  pub strings : Summing s 2 at (t .strings) c q f l
+  pub codes : Summing s 3 at (t .codes) c q f l
+  pub frames : Summing s 4 at (t .frames) c q f l
+  pub misplaced : Summing s 5 at (t .misplaced) c q f l
+  pub names : Summing s 6 at (t .names) c q f l
+  pub named : Summing s 7 at (t .named) c q f l
+  pub far : Summing s 8 at (t .far) c q f l
+
+pub tally-start : (s : List ℕ) (t : Totals) → t ≡ nothing → Tallying s 0 t 0 0 0 0
+unfolding nothing
+tally-start s t e = rw e (record { expressions = sum-start s 0; instructions = sum-start s 1; strings = sum-start s 2; codes = sum-start s 3; frames = sum-start s 4; misplaced = sum-start s 5; names = sum-start s 6; named = sum-start s 7; far = sum-start s 8 })
+
+module _ (s : List ℕ) (at : ℕ) (t : Totals) (c q f l : ℕ) (i : Tallying s at t c q f l) where
+  ends : ((what n : ℕ) → Summing s what at n c q f l → Sums s what n) → Totalled s t
+  ends h = record {
+    expressions = h 0 _ (i .expressions);
+    instructions = h 1 _ (i .instructions);
+    strings = h 2 _ (i .strings);
+    codes = h 3 _ (i .codes);
+    frames = h 4 _ (i .frames);
+    misplaced = h 5 _ (i .misplaced);
+    names = h 6 _ (i .names);
+    named = h 7 _ (i .named);
+    far = h 8 _ (i .far);
+  }
+
+  pub tally-done : length s ≤ at → Totalled s t
+  tally-done h = ends (λ what n j. sum-done s what at n c q f l j h)
+
+  pub tally-curly : Short s → at < length s → NotHuge c
+  tally-curly = sum-curly s 0 at _ c q f l (i .expressions)
+
+  pub tally-square : Short s → at < length s → NotHuge q
+  tally-square = sum-square s 0 at _ c q f l (i .expressions)
+
+  pub tally-further : Short s → at < length s → NotHuge f
+  tally-further = sum-further s 0 at _ c q f l (i .expressions)
+
+  pub tally-rooms : Short s → at < length s → Rooms t q
+  tally-rooms h m = record {
+    expressions = sum-room s 0 at _ c q f l (i .expressions) h m;
+    instructions = sum-room s 1 at _ c q f l (i .instructions) h m;
+    strings = sum-room s 2 at _ c q f l (i .strings) h m;
+    codes = sum-room s 3 at _ c q f l (i .codes) h m;
+    frames = sum-room s 4 at _ c q f l (i .frames) h m;
+    misplaced = sum-room s 5 at _ c q f l (i .misplaced) h m;
+    names = sum-room s 6 at _ c q f l (i .names) h m;
+    named = sum-room s 7 at _ c q f l (i .named) h m;
+    far = sum-room s 8 at _ c q f l (i .far) h m;
+  }
+
+  module _ (r : TokenRead) (found : TokenAt class s at r) where
+    pub tally-end : r ≡ TokenRead.End → Totalled s t
+    tally-end e = ends (λ what n j. sum-end s what at n c q f l j r found e)
+
+    pub tally-none : r ≡ TokenRead.NoToken → Totalled s t
+    tally-none e = ends (λ what n j. sum-none s what at n c q f l j r found e)
+
+    pub tally-again : (k a p w : ℕ) → r ≡ TokenRead.Token k a p w → (u : Totals) → Added t c q f l k u → (f' q' c' : ℕ) → Short s → at < length s →
+        f' ≡ further-after l f k → q' ≡ square-after c q k → c' ≡ curly-after c k → Tallying s p u c' q' f' k
+    tally-again k a p w e u d f' q' c' h v ef eq ec = record {
+      expressions = again 0 _ _ (i .expressions) (d .expressions);
+      instructions = again 1 _ _ (i .instructions) (d .instructions);
+      strings = again 2 _ _ (i .strings) (d .strings);
+      codes = again 3 _ _ (i .codes) (d .codes);
+      frames = again 4 _ _ (i .frames) (d .frames);
+      misplaced = again 5 _ _ (i .misplaced) (d .misplaced);
+      names = again 6 _ _ (i .names) (d .names);
+      named = again 7 _ _ (i .named) (d .named);
+      far = again 8 _ _ (i .far) (d .far);
+    }
+      where
+        again : (what n m : ℕ) → Summing s what at n c q f l → m ≡ n + weight what c q f l k → Summing s what p m c' q' f' k
+        again what n m j em = sum-again s what at n c q f l j r found k a p w e m f' q' c' h v em ef eq ec

@@ -1,11 +1,13 @@
-// Sums over the tokens of a source. What is summed is a number:
+// Sums over the tokens of a source, all in one reading. What is summed is a number:
 //   0 expressions, 1 instructions, 2 string literals, 3 code literals
 //   4 frames outside code
 //   5 `!`, operators, `self` and `^` outside code
 //   6 names in paths, and at each first `^` the levels from the program frame down to the frame that holds the code
 //   7 further `^` that name a frame, 8 further `^` above the program frame
 ghost use mathlib.Core.Path.{_≡_};
-ghost use Rattle.sums.specs.Weights.{one-if, opened, closed, curly-after, square-after, further-after, expression-weight, plain-weight, mark-weight, placed-weight, up-weight, path-weight, weight, NotHuge, Sums};
+ghost use Prim.Native.Nat.{_+_};
+ghost use Rattle.sums.specs.Weights.{one-if, opened, closed, curly-after, square-after, further-after, expression-weight, plain-weight, mark-weight, placed-weight, up-weight, path-weight, weight, NotHuge};
+ghost use Rattle.sums.specs.Totals.{Room, Rooms, Added, nothing, Totalled};
 ghost use Rattle.sweep.specs.Decides.{Short};
 use token::TokenRead;
 
@@ -198,13 +200,77 @@ fn weight(what: u32, curly: usize, square: usize, further: usize, last: u32, k: 
     a + b + c
 }
 
-// The sum over the tokens of a source.
-pub fn sum(s: &[u8], what: u32) -> usize
+// The nine sums, by what is summed.
+pub struct Totals {
+    pub expressions: usize,
+    pub instructions: usize,
+    pub strings: usize,
+    pub codes: usize,
+    pub frames: usize,
+    pub misplaced: usize,
+    pub names: usize,
+    pub named: usize,
+    pub far: usize,
+}
+
+// A sum with what a token of kind k adds.
+fn plus(
+    n: usize,
+    what: u32,
+    curly: usize,
+    square: usize,
+    further: usize,
+    last: u32,
+    k: u32,
+) -> usize
+    requires { ⌜ Room n square ⌝ }
+    ensures { λ r. ⌜ r ≡ n + weight what curly square further last k ⌝ }
+{
+    n + weight(what, curly, square, further, last, k)
+}
+
+// The sums with what a token of kind k adds.
+fn added(t: Totals, curly: usize, square: usize, further: usize, last: u32, k: u32) -> Totals
+    requires { ⌜ Rooms t square ⌝ }
+    ensures { λ r. ⌜ Added t curly square further last k r ⌝ }
+{
+    Totals {
+        expressions: plus(t.expressions, 0, curly, square, further, last, k),
+        instructions: plus(t.instructions, 1, curly, square, further, last, k),
+        strings: plus(t.strings, 2, curly, square, further, last, k),
+        codes: plus(t.codes, 3, curly, square, further, last, k),
+        frames: plus(t.frames, 4, curly, square, further, last, k),
+        misplaced: plus(t.misplaced, 5, curly, square, further, last, k),
+        names: plus(t.names, 6, curly, square, further, last, k),
+        named: plus(t.named, 7, curly, square, further, last, k),
+        far: plus(t.far, 8, curly, square, further, last, k),
+    }
+}
+
+// No sum has begun.
+fn nothing() -> Totals
+    ensures { λ r. ⌜ r ≡ nothing ⌝ }
+{
+    Totals {
+        expressions: 0,
+        instructions: 0,
+        strings: 0,
+        codes: 0,
+        frames: 0,
+        misplaced: 0,
+        names: 0,
+        named: 0,
+        far: 0,
+    }
+}
+
+// The sums over the tokens of a source, in one reading.
+pub fn sum_all(s: &[u8]) -> Totals
     requires { ⌜ Short (now s) ⌝ }
-    ensures { λ r. ⌜ Sums (now (s .entry)) what r ⌝ }
+    ensures { λ r. ⌜ Totalled (now (s .entry)) r ⌝ }
 {
     let mut at = 0;
-    let mut n = 0;
+    let mut t = nothing();
     let mut curly = 0;
     let mut square = 0;
     let mut further = 0;
@@ -212,13 +278,13 @@ pub fn sum(s: &[u8], what: u32) -> usize
     while at < s.len() {
         match token::token_at(s, at) {
             TokenRead::End => {
-                return n;
+                return t;
             }
             TokenRead::NoToken => {
-                return n;
+                return t;
             }
             TokenRead::Token(k, _begin, end, _word) => {
-                n += weight(what, curly, square, further, last, k);
+                t = added(t, curly, square, further, last, k);
                 further = further_after(last, further, k);
                 square = square_after(curly, square, k);
                 curly = curly_after(curly, k);
@@ -227,5 +293,5 @@ pub fn sum(s: &[u8], what: u32) -> usize
             }
         }
     }
-    n
+    t
 }

@@ -3,7 +3,7 @@ use mathlib.Core.Path.{_≡_, refl, _∙_, ap, sym}
 use mathlib.Core.List.{List, []}
 use Prim.Native.Nat.{ℕ, zero, suc, _+_, _<_}
 use native.Mathlib.Omega.{arith}
-use lib.ListN.{getD}
+use lib.ListN.{length, getD}
 use mir.Syntax.{w32}
 use mir.Val.{toZ}
 use Rattle.framed.specs.Tree.{Base, Expression, Slots, Instruction, Code, _then_}
@@ -33,9 +33,14 @@ list-get f d (suc n) i (suc k) lt = let e : (i + 1) + k ≡ i + suc k = omega ar
 from-zero : {A : Type 0} (f : ℕ → A) (d : A) (n k : ℕ) → k < n → getD (list-from f n 0) k d ≡ f k
 from-zero f d n k lt = let e : 0 + k ≡ k = omega arith in list-get f d n 0 k lt ∙ ap f e
 
+pub list-length : {A : Type 0} (f : ℕ → A) (n i : ℕ) → length (list-from f n i) ≡ n
+unfolding list-from
+list-length f zero i = refl
+list-length f (suc n) i = ap suc (list-length f n (i + 1))
+
 -- ---- One level
 
-trees-one : (p : List ℕ) → trees p ≡ one-level p (levels 599999 p)
+pub trees-one : (p : List ℕ) → trees p ≡ one-level p (levels 599999 p)
 unfolding trees levels
 trees-one p = refl
 

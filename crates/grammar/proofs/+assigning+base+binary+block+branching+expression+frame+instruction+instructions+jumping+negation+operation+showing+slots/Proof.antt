@@ -3,7 +3,7 @@ use borrow.Author.Needs.{needs}
 use lib.ListN.{length}
 use Prim.Native.Nat.{_+_, _*_, _-_}
 use Rattle.framed.specs.Parse as R
-use Rattle.grammar.proofs.Laws.{Continues, assign-1, assign-2, assign-3, assign-falls, base-block, base-constant, base-path, binary-1, binary-2, binary-falls, block-1, block-2, block-3, block-4, block-falls, expression-binary, expression-frame, expression-not, frame-1, frame-2, frame-3, frame-4, frame-5, frame-falls, ifeq-1, ifeq-2, ifeq-3, ifeq-4, ifeq-falls, ifeq-falls-2, ifeq-falls-3, instruction-assign, instruction-ifeq, instruction-jump, instruction-show, jump-1, jump-2, jump-3, jump-falls, jump-falls-2, list-1, list-2, list-again, list-end, list-falls, list-less, list-start, negation-1, negation-2, negation-falls, operation-1, operation-2, operation-3, operation-falls, show-1, show-2, show-falls, slots-1, slots-2, slots-3, slots-4, slots-again, slots-end, slots-falls, slots-less, slots-start}
+use Rattle.grammar.proofs.Laws.{Continues, assign-1, assign-2, assign-3, assign-falls, base-block, base-none, base-path, base-token, binary-1, binary-2, binary-falls, block-1, block-2, block-3, block-4, block-falls, expression-binary, expression-frame, expression-not, frame-1, frame-2, frame-3, frame-4, frame-5, frame-falls, ifeq-1, ifeq-2, ifeq-3, ifeq-4, ifeq-falls, ifeq-falls-2, ifeq-falls-3, instruction-assign, instruction-ifeq, instruction-jump, instruction-show, jump-1, jump-2, jump-3, jump-falls, jump-falls-2, list-1, list-2, list-again, list-end, list-falls, list-less, list-start, negation-1, negation-2, negation-falls, operation-1, operation-2, operation-3, operation-falls, show-1, show-2, show-falls, slots-1, slots-2, slots-3, slots-4, slots-again, slots-end, slots-falls, slots-less, slots-start}
 use Prim.Native.Nat.{ℕ, _<_}
 use borrow.Fn.Kinds.{In}
 use borrow.Fn.PlainCycle.{Measures, is, falls, and}
@@ -51,7 +51,9 @@ use Rattle.grammar.proofs.slots.Kinds as slots-kinds
 use Rattle.grammar.proofs.+assigning+base+binary+block+branching+expression+frame+instruction+instructions+jumping+negation+operation+showing+slots.Lts-slots as slots-lts
 use Rattle.grammar.proofs.expect.Reads as expect-reads
 use Rattle.grammar.proofs.kind_at.Reads as kind-at-reads
+use Rattle.grammar.proofs.look.Reads as look-reads
 use Rattle.grammar.proofs.path.Reads as path-reads
+use Rattle.grammar.proofs.path_from.Reads as path-from-reads
 use Rattle.grammar.proofs.+assigning+base+binary+block+branching+expression+frame+instruction+instructions+jumping+negation+operation+showing+slots.{
   statement,
 }
@@ -244,7 +246,7 @@ pub +assigning+base+binary+block+branching+expression+frame+instruction+instruct
     (λ c κs. (search assign-falls, tt))
     (λ c. search assign-3))
     (λ t. base-lts.spec
-    (kind-at-reads.Asked, kind-at-reads.Learnt, block-below t, block.Post, path-reads.Asked, path-reads.Learnt, expect-reads.Asked, expect-reads.Learnt)
+    (look-reads.Asked, look-reads.Learnt, block-below t, block.Post, path-from-reads.Asked, path-from-reads.Learnt)
     (base-at t)
     base.Post
     (λ c κs. search needs)
@@ -252,8 +254,8 @@ pub +assigning+base+binary+block+branching+expression+frame+instruction+instruct
     (λ c. search base-block)
     (λ c κs. search needs)
     (λ c. search base-path)
-    (λ c κs. search needs)
-    (λ c. search base-constant))
+    (λ c. search base-token)
+    (λ c. search base-none))
     (λ t. binary-lts.spec
     (base-below t, base.Post, operation-below t, operation.Post)
     (binary-at t)

@@ -7,4 +7,4 @@ returns : tie.Need-returns
 returns c = search far-is
 
 pub far-up-spec : {M : Type 1} → statement M
-far-up-spec = tie.close (tie.spec (λ c κs. search needs) returns)
+far-up-spec = tie.close (tie.spec returns)

@@ -7,4 +7,4 @@ returns : tie.Need-returns
 returns c = search frames-is
 
 pub many-frames-spec : {M : Type 1} → statement M
-many-frames-spec = tie.close (tie.spec (λ c κs. search needs) (λ c κs. search needs) returns)
+many-frames-spec = tie.close (tie.spec (λ c κs. search needs) returns)

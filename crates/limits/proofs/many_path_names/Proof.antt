@@ -10,4 +10,4 @@ returns-2 : tie.Need-returns-2
 returns-2 c = search names-are
 
 pub many-path-names-spec : {M : Type 1} → statement M
-many-path-names-spec = tie.close (tie.spec (λ c κs. search needs) (λ c κs. search needs) returns returns-2)
+many-path-names-spec = tie.close (tie.spec returns returns-2)

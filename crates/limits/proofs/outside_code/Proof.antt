@@ -7,4 +7,4 @@ returns : tie.Need-returns
 returns c = search misplaced-is
 
 pub outside-code-spec : {M : Type 1} → statement M
-outside-code-spec = tie.close (tie.spec (λ c κs. search needs) returns)
+outside-code-spec = tie.close (tie.spec returns)

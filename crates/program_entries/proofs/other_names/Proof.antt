@@ -1,9 +1,9 @@
-use Rattle.tables.proofs.Walks.{Along, along-start}
 use Prim.Native.Nat.{_-_}
 use native.Mathlib.Omega.{arith}
 use borrow.Author.Needs.{needs}
+use Rattle.tables.proofs.Walks.{Along, along-start}
 use Rattle.program_entries.specs.Tests.{other-name-at}
-use Rattle.program_entries.proofs.Laws.{other-again, other-done}
+use Rattle.program_entries.proofs.Laws.{other-ended, other-again, other-done}
 use Rattle.program_entries.proofs.other_names.Statement.{statement}
 use Rattle.program_entries.proofs.other_names.Tie as tie
 
@@ -16,15 +16,18 @@ abbrev μ-loop : tie.MeasureT-loop
 loop-holds : tie.Need-loop-holds Inv-loop μ-loop
 loop-holds c = search along-start
 
+returns : tie.Need-returns Inv-loop μ-loop
+returns c = search other-ended
+
 loop-again : tie.Need-loop-again Inv-loop μ-loop
 loop-again c = search other-again
 
-returns : tie.Need-returns Inv-loop μ-loop
-returns c = search other-done
+returns-2 : tie.Need-returns-2 Inv-loop μ-loop
+returns-2 c = search other-done
 
 pub other-names-spec : {M : Type 1} → statement M
 other-names-spec =
     tie.close
     (tie.spec
-    Inv-loop μ-loop loop-holds (λ c κs. search needs) (λ c κs. search needs) (λ c. omega arith) (λ c. omega arith)
-    loop-again returns)
+    Inv-loop μ-loop loop-holds returns (λ c κs. search needs) (λ c κs. search needs) (λ c. omega arith) (λ c. omega arith)
+    loop-again returns-2)

@@ -1,7 +1,6 @@
-use Rattle.slots.proofs.Laws.{Passing, pass-start, pass-end, pass-none, pass-bad, pass-again, pass-done}
+use Rattle.slots.proofs.Laws.{Passing, pass-start, pass-end, pass-none, pass-bad, pass-again, pass-less, pass-done}
 use Prim.Native.Nat.{_-_}
 use lib.ListN.{length}
-use Rattle.token.proofs.Answers.{token-less}
 use borrow.Author.Needs.{needs}
 use Rattle.slots.proofs.bad_frame.Statement.{statement}
 use Rattle.slots.proofs.bad_frame.Tie as tie
@@ -25,7 +24,7 @@ returns-3 : tie.Need-returns-3 Inv-loop μ-loop
 returns-3 c = search pass-bad
 
 loop-less : tie.Need-loop-less Inv-loop μ-loop
-loop-less c = search token-less
+loop-less c = search pass-less
 
 loop-again : tie.Need-loop-again Inv-loop μ-loop
 loop-again c = search pass-again

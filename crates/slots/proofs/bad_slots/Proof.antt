@@ -1,4 +1,5 @@
-use Rattle.slots.proofs.Laws.{Collecting, collect-start, collect-end, collect-none, collect-closes, collect-repeated, collect-few, collect-many, collect-shallow, collect-again, collect-done}
+use Rattle.slots.proofs.Laws.{Collecting, collect-start, collect-end, collect-none, collect-closes, collect-repeated, collect-few, collect-many, collect-shallow, collect-again, collect-done, clear-start, clear-again, checks}
+use Rattle.slots.specs.Checks.{Clear}
 use Prim.Native.Nat.{_-_}
 use lib.ListN.{length}
 use Rattle.token.proofs.Answers.{token-less}
@@ -7,31 +8,31 @@ use Rattle.slots.proofs.bad_slots.Statement.{statement}
 use Rattle.slots.proofs.bad_slots.Tie as tie
 
 abbrev Inv-loop : tie.InvT-loop
-Inv-loop s from begins₀ ends₀ n₀ depth₀ last₀ at₀ begins ends n depth last at = Collecting s from begins ends n depth last at
+Inv-loop s from begins₀ ends₀ n₀ depth₀ last₀ clear₀ at₀ begins ends n depth last clear at = Collecting s from begins ends n depth last at × Clear s from clear
 
 abbrev μ-loop : tie.MeasureT-loop
-μ-loop s from begins₀ ends₀ n₀ depth₀ last₀ at₀ begins ends n depth last at = length s - at
+μ-loop s from begins₀ ends₀ n₀ depth₀ last₀ clear₀ at₀ begins ends n depth last clear at = length s - at
 
 loop-holds : tie.Need-loop-holds Inv-loop μ-loop
-loop-holds c = search collect-start
+loop-holds c = search (collect-start, clear-start)
 
 returns : tie.Need-returns Inv-loop μ-loop
-returns c = search collect-end
+returns c = search (checks, collect-end)
 
 returns-2 : tie.Need-returns-2 Inv-loop μ-loop
-returns-2 c = search collect-none
+returns-2 c = search (checks, collect-none)
 
 returns-3 : tie.Need-returns-3 Inv-loop μ-loop
-returns-3 c = search collect-closes
+returns-3 c = search (checks, collect-closes)
 
 returns-4 : tie.Need-returns-4 Inv-loop μ-loop
-returns-4 c = search collect-repeated
+returns-4 c = search (checks, collect-repeated)
 
 add-slot-requires : tie.Need-add-slot-requires Inv-loop μ-loop
 add-slot-requires c κs = search collect-few
 
 returns-5 : tie.Need-returns-5 Inv-loop μ-loop
-returns-5 c = search collect-many
+returns-5 c = search (checks, collect-many)
 
 depth-after-requires : tie.Need-depth-after-requires Inv-loop μ-loop
 depth-after-requires c κs = search (collect-shallow, needs)
@@ -40,12 +41,12 @@ loop-less : tie.Need-loop-less Inv-loop μ-loop
 loop-less c = search token-less
 
 loop-again : tie.Need-loop-again Inv-loop μ-loop
-loop-again c = search collect-again
+loop-again c = search (collect-again, clear-again)
 
 returns-6 : tie.Need-returns-6 Inv-loop μ-loop
-returns-6 c = search collect-done
+returns-6 c = search (checks, collect-done)
 
 pub bad-slots-spec : {M : Type 1} → statement M
 bad-slots-spec =
     tie.close
-    (tie.spec Inv-loop μ-loop loop-holds (λ c κs. search needs) (λ c. search needs) returns (λ c. search needs) returns-2 (λ c. search needs) (λ c κs. search needs) returns-3 (λ c κs. search needs) (λ c. search needs) (λ c. search needs) (λ c κs. search needs) returns-4 (λ c. search needs) (λ c. search needs) add-slot-requires returns-5 depth-after-requires loop-less loop-again returns-6)
+    (tie.spec Inv-loop μ-loop loop-holds (λ c κs. search needs) (λ c. search needs) returns (λ c. search needs) returns-2 (λ c. search needs) (λ c κs. search needs) returns-3 (λ c κs. search needs) (λ c. search needs) (λ c. search needs) (λ c κs. search needs) returns-4 (λ c. search needs) (λ c. search needs) add-slot-requires returns-5 (λ c κs. search needs) depth-after-requires loop-less loop-again returns-6)

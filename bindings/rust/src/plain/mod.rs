@@ -1,0 +1,61 @@
+//! A plain implementation of the specification over the four memories: load, run, collect, look and its companion.
+//!
+//! It follows the specification and docs/LAYOUT.md and shares no code with the proved machine. It was not written blind:
+//! the definitions and the source of the proved crates were read before, for the words that load and a step write, so that
+//! a misreading of the specification may be common to both. It keeps its state in the memories only, and tests at each
+//! call that they are whole, as the proved machine does.
+#![forbid(unsafe_code)]
+
+mod collect;
+mod framerun;
+mod heap;
+mod layout;
+mod load;
+mod look;
+mod parse;
+mod run;
+mod token;
+mod whole;
+
+pub use framerun::framerun;
+pub use load::load;
+pub use look::{look, look_text};
+
+use crate::{Refusal, RunReport, Totals};
+use heap::Heap;
+
+/// The refusal of run, collect and look: the memories are not whole.
+const NOT_WHOLE: Refusal = Refusal(20);
+
+/// Runs for at most `fuel` steps. Shows are written to the front of `out`; nothing else of it is touched.
+pub fn run(
+    program: &[u32],
+    heap: &mut [u32],
+    literals: &[u8],
+    texts: &mut [u8],
+    fuel: u32,
+    out: &mut [u8],
+) -> Result<RunReport, Refusal> {
+    let (program, literals) = whole::program(program, literals).ok_or(NOT_WHOLE)?;
+    let (heap, texts) = whole::state_mut(program, heap, texts).ok_or(NOT_WHOLE)?;
+    Ok(run::Machine::new(program, heap, literals, texts).run(fuel, out))
+}
+
+/// Afterwards exactly what self and program reach is in use; the totals are how much that is.
+pub fn collect(
+    program: &[u32],
+    heap: &mut [u32],
+    literals: &[u8],
+    texts: &[u8],
+) -> Result<Totals, Refusal> {
+    let (program, _) = whole::program(program, literals).ok_or(NOT_WHOLE)?;
+    whole::state(program, heap, texts).ok_or(NOT_WHOLE)?;
+    let heap: &mut Heap = heap.try_into().map_err(|_| NOT_WHOLE)?;
+    Ok(collect::collect(heap))
+}
+
+/// Whether the memories are whole.
+pub fn is_whole(program: &[u32], heap: &[u32], literals: &[u8], texts: &[u8]) -> bool {
+    whole::program(program, literals)
+        .is_some_and(|(program, _)| whole::state(program, heap, texts).is_some())
+}

@@ -1,0 +1,416 @@
+//! Inputs for the tests: sources, path texts and damage, from a generator of pseudorandom numbers that starts anew in each
+//! test, so that every run tries the same inputs. FRAMED_ROUNDS sets how many.
+#![allow(dead_code)]
+
+use framed::Memories;
+
+pub fn rounds(usual: u64) -> u64 {
+    std::env::var("FRAMED_ROUNDS").ok().and_then(|n| n.parse().ok()).unwrap_or(usual)
+}
+
+/// SplitMix64.
+pub struct Random(pub u64);
+
+impl Random {
+    pub fn next(&mut self) -> u64 {
+        self.0 = self.0.wrapping_add(0x9e37_79b9_7f4a_7c15);
+        let mut z = self.0;
+        z = (z ^ (z >> 30)).wrapping_mul(0xbf58_476d_1ce4_e5b9);
+        z = (z ^ (z >> 27)).wrapping_mul(0x94d0_49bb_1331_11eb);
+        z ^ (z >> 31)
+    }
+
+    pub fn below(&mut self, n: usize) -> usize {
+        (self.next() % n as u64) as usize
+    }
+
+    pub fn one_in(&mut self, n: usize) -> bool {
+        self.below(n) == 0
+    }
+
+    pub fn pick<T: Copy>(&mut self, from: &[T]) -> T {
+        from[self.below(from.len())]
+    }
+}
+
+const NAMES: [&str; 8] = ["a", "b", "c", "list", "next", "caller", "return", "n16_bytes_long__"];
+// what the slots with these names most often hold
+const INTEGER_NAMES: [&str; 3] = ["a", "b", "n16_bytes_long__"];
+const FRAME_NAMES: [&str; 3] = ["list", "next", "caller"];
+const CODES: [&str; 5] = ["start", "one", "two", "three", "loop"];
+const STRINGS: [&str; 6] = ["", "x", "ab", "a text", "0123456789abcdef", "// [{ no space }]"];
+const INTEGERS: [&str; 8] = ["0", "1", "-1", "2", "7", "-3", "000065536", "0"];
+const FAR_INTEGERS: [&str; 3] = ["2147483647", "-2147483648", "46341"];
+const OPERATORS: [&str; 9] = ["+", "-", "*", "/", "<", "#", "==", "&&", "||"];
+
+/// Writes a source that most often loads, with codes that jump to one another, make frames and texts and let them go.
+pub struct Writer<'a> {
+    random: &'a mut Random,
+    out: String,
+}
+
+impl Writer<'_> {
+    pub fn source(random: &mut Random) -> String {
+        let mut writer = Writer { random, out: String::new() };
+        writer.put("frame: [ a := 5, c := \"text\", ");
+        if writer.random.one_in(2) {
+            writer.put("next := frame: [ a := 1, list := frame: [ b := -2 ] ], ");
+        }
+        writer.put("Main := frame: [ ");
+        for name in CODES {
+            writer.put(name);
+            writer.put(" := code { ");
+            if name == "start" {
+                writer.put(
+                    "self.a := 3; self.b := 0; self.c := \"t\"; self.list := frame: []; self.next := ^.^; \
+                     self.caller := self; self.return := ^.two; self.n16_bytes_long__ := 7; ",
+                );
+            }
+            for _ in 0..1 + writer.random.below(6) {
+                writer.instruction(2);
+            }
+            if writer.random.one_in(2) {
+                writer.jump(2);
+            }
+            writer.put("}, ");
+        }
+        writer.put("a := 0 ] ]");
+        writer.out
+    }
+
+    fn put(&mut self, text: &str) {
+        self.out.push_str(text);
+    }
+
+    fn pick(&mut self, from: &[&str]) {
+        let text = self.random.pick(from);
+        self.put(text);
+    }
+
+    fn code(&mut self, most: usize, depth: usize) {
+        self.put("code { ");
+        for _ in 0..self.random.below(most) {
+            self.instruction(depth);
+        }
+        self.put("}");
+    }
+
+    fn instruction(&mut self, depth: usize) {
+        if self.random.one_in(60) {
+            // nearly as many slots as a frame may have
+            for name in ["s", "t", "u", "v", "w", "x", "y", "z"] {
+                self.put(&format!("self.{name} := 0; "));
+            }
+        }
+        match self.random.below(13) {
+            0 | 1 => {
+                self.put("show ");
+                self.base(depth);
+                self.put("; ");
+            }
+            2 => {
+                self.put("ifeq ");
+                self.integer(depth);
+                self.put(" ");
+                self.target(depth);
+                self.put(" ");
+                self.new_self(depth);
+                self.put("; ");
+            }
+            3 => {
+                self.put("self.list := frame: [ next := self.list, a := ");
+                self.expression(depth.saturating_sub(1));
+                self.put(" ]; ");
+            }
+            4 => self.put(
+                "self := frame: [ caller := self, list := self, a := self.a, b := self.b, c := self.c, next := self.next, \
+                 return := ^.one, n16_bytes_long__ := 1 ]; ",
+            ),
+            5 => {
+                self.put("self.c := self.c # ");
+                self.base(0);
+                self.put("; ");
+            }
+            6 => self.put("self.c := \"\"; "),
+            7 => self.jump(depth),
+            8 => {
+                self.path();
+                self.put(" := ");
+                self.expression(depth);
+                self.put("; ");
+            }
+            _ => {
+                self.put("self.");
+                self.pick(&INTEGER_NAMES);
+                self.put(" := ");
+                self.integer_expression(depth);
+                self.put("; ");
+            }
+        }
+    }
+
+    fn jump(&mut self, depth: usize) {
+        self.put("jump ");
+        self.target(depth);
+        self.put(" ");
+        self.new_self(depth);
+        self.put("; ");
+    }
+
+    fn target(&mut self, depth: usize) {
+        if depth > 0 && self.random.one_in(8) {
+            self.code(4, depth - 1);
+        } else if self.random.one_in(20) {
+            self.base(0);
+        } else if self.random.one_in(6) {
+            self.put("self.return");
+        } else {
+            self.put("^.");
+            self.pick(&CODES[1..]);
+        }
+    }
+
+    fn new_self(&mut self, depth: usize) {
+        match self.random.below(20) {
+            0 => self.base(depth),
+            1 | 2 => self.put("self.caller"),
+            _ => self.put("self"),
+        }
+    }
+
+    fn path(&mut self) {
+        if self.random.one_in(20) {
+            return self.put("self.seventeenth");
+        }
+        self.pick(&["^", "^.^", "self", "self", "self", "self.list", "self.caller", "self.next"]);
+        for _ in 0..self.random.below(3) {
+            self.put(".");
+            self.pick(&NAMES);
+        }
+    }
+
+    fn integer(&mut self, depth: usize) {
+        match self.random.below(30) {
+            0 => self.base(depth),
+            1 => self.pick(&FAR_INTEGERS),
+            2..=10 => self.pick(&INTEGERS),
+            _ => {
+                self.put("self.");
+                self.pick(&INTEGER_NAMES);
+            }
+        }
+    }
+
+    fn base(&mut self, depth: usize) {
+        match self.random.below(12) {
+            0 | 1 => self.pick(&INTEGERS),
+            2 => {
+                self.put("\"");
+                self.pick(&STRINGS);
+                self.put("\"");
+            }
+            3 if depth > 0 && self.random.one_in(4) => self.code(3, depth - 1),
+            4 => self.path(),
+            5 => self.put("self.c"),
+            6 => {
+                self.put("self.");
+                self.pick(&FRAME_NAMES);
+            }
+            7 => self.put("^.one"),
+            _ => {
+                self.put("self.");
+                self.pick(&INTEGER_NAMES);
+            }
+        }
+    }
+
+    fn integer_expression(&mut self, depth: usize) {
+        self.integer(depth);
+        let operator = self.random.pick(&["", " + ", " - ", " * ", " / ", " < ", " == ", " && ", " || "]);
+        if !operator.is_empty() {
+            self.put(operator);
+            self.integer(depth);
+        }
+    }
+
+    fn expression(&mut self, depth: usize) {
+        match self.random.below(10) {
+            0 | 1 if depth > 0 => {
+                self.put("frame: [ ");
+                for name in &NAMES[..self.random.below(5)] {
+                    self.put(name);
+                    self.put(" := ");
+                    self.expression(depth - 1);
+                    self.put(", ");
+                }
+                self.put("]");
+            }
+            2 => {
+                self.put("!");
+                self.base(depth);
+            }
+            3 => {
+                self.base(depth);
+                self.put(" ");
+                self.pick(&OPERATORS);
+                self.put(" ");
+                self.base(depth);
+            }
+            4 | 5 => self.integer_expression(depth),
+            _ => self.base(depth),
+        }
+    }
+}
+
+/// Tokens, and bytes that are none, to be put into a source.
+const PIECES: [&str; 40] = [
+    "frame", "code", "self", "show", "jump", "ifeq", ":", ":=", "==", "&&", "||", ".", "^", "!", "+", "-", "*", "/", "<",
+    "#", ";", ",", "[", "]", "{", "}", "\"", "=", "&", "|", "//", "\n", " ", "Main", "start", "0", "-1", "99999999999",
+    "a_name_of_17_byte", "\u{1}",
+];
+
+/// A source with a few bytes or pieces taken out, doubled or put in.
+pub fn damaged_source(source: &[u8], random: &mut Random) -> Vec<u8> {
+    let mut source = source.to_vec();
+    for _ in 0..1 + random.below(4) {
+        let at = random.below(source.len() + 1);
+        let end = (at + random.below(12)).min(source.len());
+        match random.below(5) {
+            0 => {
+                source.drain(at..end);
+            }
+            1 => {
+                let part = source[at..end].to_vec();
+                let to = random.below(source.len() + 1);
+                source.splice(to..to, part);
+            }
+            2 if at < source.len() => source[at] = random.next() as u8,
+            _ => {
+                let piece = random.pick(&PIECES);
+                source.splice(at..at, piece.bytes());
+            }
+        }
+    }
+    source
+}
+
+/// Bytes of which most are those of tokens.
+pub fn random_bytes(random: &mut Random) -> Vec<u8> {
+    let length = random.below(200);
+    (0..length)
+        .map(|_| if random.one_in(20) { random.next() as u8 } else { 32 + random.below(95) as u8 })
+        .collect()
+}
+
+/// A long source: as many instructions and expressions as fit.
+pub fn long_source(random: &mut Random) -> String {
+    let mut source = String::from("frame: [ Main := frame: [ start := code { ");
+    while source.len() < 15_000 + random.below(2_000) {
+        let (a, b) = (random.pick(&NAMES), random.pick(&NAMES));
+        match random.below(4) {
+            0 => source.push_str(&format!("self.{a} := self.{b} + 1; ")),
+            1 => source.push_str(&format!("self.{a}                    := 1; // {b}\n")),
+            2 => source.push_str("show 1; "),
+            _ => source.push_str(&format!("self.{a} := frame: [ {b} := 1 ];                          ")),
+        }
+    }
+    source.push_str("} ] ]");
+    source
+}
+
+pub fn path_text(random: &mut Random) -> Vec<u8> {
+    let mut path = String::from(random.pick(&["self", "^", "self", "^", "^.^", "", "// no path\nself", " self "]));
+    for _ in 0..random.below(5) {
+        path.push_str(random.pick(&[".", ".", ".", ".", " . ", "..", ""]));
+        path.push_str(random.pick(&NAMES));
+        if random.one_in(6) {
+            path.push_str(random.pick(&[".Main", ".start", ".absent", ".frame", ".3", " x", "\"", "."]));
+        }
+    }
+    path.into_bytes()
+}
+
+/// The words of the memories that a program uses: where damage matters most.
+fn word_place(random: &mut Random) -> usize {
+    match random.below(8) {
+        0 => random.below(12),
+        1 => 64 + random.below(200),
+        2 => 2_240 + random.below(40),
+        3 => 2_368 + random.below(20),
+        4 => 2_496 + random.below(120),
+        5 => 4_544 + random.below(200),
+        6 => 7_104 + random.below(400),
+        _ => random.below(16_384),
+    }
+}
+
+fn heap_place(random: &mut Random) -> usize {
+    match random.below(5) {
+        0 => random.below(8),
+        1 | 2 => 128 + random.below(51 * 12),
+        3 => 13_184 + random.below(16),
+        _ => random.below(16_384),
+    }
+}
+
+fn value(old: u32, random: &mut Random) -> u32 {
+    match random.below(6) {
+        0 => old.wrapping_add(1),
+        1 => old.wrapping_sub(1),
+        2 => random.below(20) as u32,
+        3 => random.pick(&[0, 1, 16, 17, 31, 37, 38, 64, 65, 66, 128, 255, 256, 257, 512, 1_024, u32::MAX]),
+        4 => old ^ (1 << random.below(32)),
+        _ => random.next() as u32,
+    }
+}
+
+/// Writes some words and bytes anew.
+pub fn damage(memories: &mut Memories, random: &mut Random) {
+    for _ in 0..1 + random.below(3) {
+        match random.below(10) {
+            0..=4 => {
+                let at = word_place(random);
+                memories.program[at] = value(memories.program[at], random);
+            }
+            5..=7 => {
+                let at = heap_place(random);
+                memories.heap[at] = value(memories.heap[at], random);
+            }
+            8 => {
+                let at = random.below(256);
+                memories.literals[at] = random.next() as u8;
+            }
+            _ => {
+                let at = random.below(256);
+                memories.texts[at] = random.next() as u8;
+            }
+        }
+    }
+}
+
+/// Memories of which one has another length.
+pub fn other_length(memories: &Memories, random: &mut Random) -> Memories {
+    let mut memories = memories.clone();
+    let length = random.pick(&[0, 1, 8_191, 8_192, 8_193, 16_383, 16_385]);
+    match random.below(4) {
+        0 => memories.program = vec![0; length].into(),
+        1 => memories.heap = vec![0; length].into(),
+        2 => memories.literals = vec![0; if length == 8_192 { 16_384 } else { length }].into(),
+        _ => memories.texts = vec![0; length].into(),
+    }
+    memories
+}
+
+/// All sources that lie beside the repository's programs.
+pub fn stored_sources() -> Vec<Vec<u8>> {
+    let top = std::path::PathBuf::from(env!("CARGO_MANIFEST_DIR")).join("../..");
+    let mut paths: Vec<_> = [top.join("examples"), top.join("crates/framecorpus/data")]
+        .iter()
+        .filter_map(|dir| std::fs::read_dir(dir).ok())
+        .flatten()
+        .map(|entry| entry.unwrap().path())
+        .filter(|path| path.extension().is_some_and(|extension| extension == "framed"))
+        .collect();
+    paths.sort();
+    paths.iter().map(|path| std::fs::read(path).unwrap()).collect()
+}

@@ -1,0 +1,58 @@
+use Rattle.clearing.proofs.Laws.{Clearing, clearing-start, clearing-again, clearing-done}
+use native.Mathlib.Omega.{arith}
+use Prim.Native.Nat.{_-_}
+use lib.ListN.{length}
+use borrow.Author.Needs.{needs}
+use Rattle.clearing.proofs.clear_bytes.Statement.{statement}
+use Rattle.clearing.proofs.clear_bytes.Tie as tie
+use Rattle.clearing.proofs.clear_bytes.Reads as reads
+use Rattle.clearing.proofs.clear_bytes.Lts as lts
+use Rattle.words.proofs.set_byte.Reads as set-byte-reads
+
+abbrev Inv-loop : tie.InvT-loop
+Inv-loop m₀ i₀ m i = Clearing m₀ m i
+
+abbrev μ-loop : tie.MeasureT-loop
+μ-loop m₀ i₀ m i = length m - i
+
+-- src/lib.rt:20:5
+loop-holds : tie.Need-loop-holds Inv-loop μ-loop
+loop-holds c = search clearing-start
+
+-- src/lib.rt:21:9
+set-byte-requires : tie.Need-set-byte-requires Inv-loop μ-loop
+set-byte-requires c κs = search needs
+
+-- src/lib.rt:22:9
+add-i : tie.Need-add-i Inv-loop μ-loop
+add-i c = omega arith
+
+-- src/lib.rt:20:5
+loop-less : tie.Need-loop-less Inv-loop μ-loop
+loop-less c = omega arith
+
+-- src/lib.rt:20:5
+loop-again : tie.Need-loop-again Inv-loop μ-loop
+loop-again c = search clearing-again
+
+-- src/lib.rt:16:1
+same-length : tie.Need-same-length Inv-loop μ-loop
+same-length c = search needs
+
+-- src/lib.rt:16:1
+returns : tie.Need-returns Inv-loop μ-loop
+returns c = search clearing-done
+
+pub clear-bytes-spec : {M : Type 1} → statement M
+clear-bytes-spec =
+    tie.close
+    (tie.spec
+    Inv-loop
+    μ-loop
+    loop-holds
+    set-byte-requires
+    add-i
+    loop-less
+    loop-again
+    same-length
+    returns)

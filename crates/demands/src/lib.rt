@@ -1,0 +1,1 @@
+// The three demands, proved of the machine: definitions and proofs only.

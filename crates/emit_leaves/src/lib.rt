@@ -1,0 +1,205 @@
+// The leaves of the tree and where its parts begin and end, written into program words: what the cycle of `emit_tree` calls.
+ghost use mathlib.Core.Path.{_≡_};
+ghost use Rattle.names.specs.Kept.{table-of};
+ghost use Rattle.emit_paths.specs.Emits.{Emits};
+ghost use Rattle.emit_leaves.specs.Parts.{place-by, line-link-by, slot-link-by, assign-by, EmitsAny, IntegerHere, StringHere, OperatorHere, integer-emitted, string-emitted, operator-emitted};
+ghost use Rattle.emit_leaves.specs.Parts.{OperatorAfter, Skipped, TargetHere, target-emitted, BlockOpened, FrameOpened, SlotNamed, SlotClosed, LineClosed};
+use emit_steps::Next;
+use emit_steps::Place;
+use grammar::Found;
+use tables::ExpressionEntry;
+use tables::InstructionEntry;
+use token::TokenRead;
+
+// ---- By the kind of the token that follows
+
+// The place of the first instruction of a code whose next token has kind k, where the next instruction is i.
+fn first_place(k: u32, i: u32) -> u32
+    ensures { λ r. ⌜ r ≡ place-by k i ⌝ }
+{
+    if k == 15 {
+        return 0;
+    }
+    emit_steps::one_more(i)
+}
+
+// The link from instruction i to the next one, z, where the next token has kind k.
+fn line_link(k: u32, i: u32, z: u32) -> u32
+    ensures { λ r. ⌜ r ≡ line-link-by k i z ⌝ }
+{
+    if k == 15 {
+        return 0;
+    }
+    emit_steps::less(z, i)
+}
+
+// The link from y to the next slot, z, where the next token has kind k.
+fn slot_link(k: u32, y: u32, z: u32) -> u32
+    ensures { λ r. ⌜ r ≡ slot-link-by k y z ⌝ }
+{
+    if k == 25 {
+        return emit_steps::less(z, y);
+    }
+    0
+}
+
+// The entry of an assignment to a path whose first token has kind k.
+fn assign_entry(k: u32, j: u32, length: u32, e: u32) -> InstructionEntry
+    ensures { λ r. ⌜ r ≡ assign-by k j length e ⌝ }
+{
+    if k == 1 {
+        return InstructionEntry::AssignSelf(j, length, e);
+    }
+    InstructionEntry::AssignProgram(j, length, e)
+}
+
+// ---- One token
+
+// An integer as expression x.
+pub fn integer(s: &[u8], p: &mut [u32], x: u32, n: Next) -> Next
+    ensures { λ r. ⌜ EmitsAny IntegerHere (integer-emitted x) (now (s .entry)) n (now (p .entry)) (now (p .exit)) r ⌝ }
+{
+    let t = token::token_at(s, n.at);
+    let TokenRead::Token(_k, _a, q, w) = t else {
+        return n;
+    };
+    table_updates::set_expression(p, x, ExpressionEntry::Integer(w));
+    emit_steps::go_to(n, q)
+}
+
+// A string as expression x.
+pub fn string(s: &[u8], p: &mut [u32], x: u32, n: Next) -> Next
+    ensures { λ r. ⌜ EmitsAny StringHere (string-emitted x) (now (s .entry)) n (now (p .entry)) (now (p .exit)) r ⌝ }
+{
+    let q = emit_steps::pass(s, n.at, 27);
+    table_updates::set_expression(p, x, ExpressionEntry::Literal(n.strings));
+    emit_steps::one_string(n, q)
+}
+
+// An operator as expression x, whose operands are a and the next expression.
+pub fn operator(s: &[u8], p: &mut [u32], x: u32, a: u32, n: Next) -> Next
+    ensures { λ r. ⌜ EmitsAny OperatorHere (operator-emitted x a) (now (s .entry)) n (now (p .entry)) (now (p .exit)) r ⌝ }
+{
+    let k = grammar::kind_at(s, n.at);
+    let q = emit_steps::pass(s, n.at, k);
+    let j = emit_steps::less(k, 9);
+    table_updates::set_expression(p, x, ExpressionEntry::Operate(j, a, n.expressions));
+    emit_steps::go_to(n, q)
+}
+
+// An operator follows the base that begins there.
+pub fn operator_after(s: &[u8], at: usize) -> bool
+    ensures { λ r. ⌜ OperatorAfter (now (s .entry)) at r ⌝ }
+{
+    let x = grammar::base(s, at);
+    let Found::Done(p) = x else {
+        return false;
+    };
+    let k = grammar::kind_at(s, p);
+    if k < 16 {
+        return false;
+    }
+    if 24 < k {
+        return false;
+    }
+    true
+}
+
+// A token of kind k is passed.
+pub fn skip(s: &[u8], n: Next, k: u32) -> Next
+    ensures { λ r. ⌜ Skipped (now (s .entry)) n k r ⌝ }
+{
+    let q = emit_steps::pass(s, n.at, k);
+    emit_steps::go_to(n, q)
+}
+
+// ---- The path of an assignment
+
+// Path and `:=` of instruction i.
+pub fn assign_target(
+    s: &[u8],
+    begins: &[usize],
+    ends: &[usize],
+    count: u32,
+    p: &mut [u32],
+    place: Place,
+    i: u32,
+    n: Next,
+) -> Next
+    ensures { λ r. ⌜ Emits (TargetHere place) (target-emitted place i) (now (s .entry)) (table-of (now (s .entry)) (now (begins .entry)) (now (ends .entry)) count) n (now (p .entry)) (now (p .exit)) r ⌝ }
+{
+    let k = grammar::kind_at(s, n.at);
+    let u = emit_paths::emit_path(s, begins, ends, count, p, place, n);
+    let d = emit_steps::less(u.paths, n.paths);
+    let e = assign_entry(k, n.paths, d, u.expressions);
+    table_updates::set_instruction(p, i, e);
+    skip(s, u, 6)
+}
+
+// ---- Where a code or a frame begins
+
+// `code` `{` of expression x.
+pub fn open_block(s: &[u8], p: &mut [u32], x: u32, n: Next) -> Next
+    ensures { λ r. ⌜ BlockOpened (now (s .entry)) x n (now (p .entry)) (now (p .exit)) r ⌝ }
+{
+    let q = emit_steps::pass_two(s, n.at, 28, 14);
+    let k = grammar::kind_at(s, q);
+    let f = first_place(k, n.instructions);
+    table_updates::set_code_first(p, n.codes, f);
+    table_updates::set_expression(p, x, ExpressionEntry::Code(n.codes));
+    emit_steps::one_code(n, q)
+}
+
+// `frame` `:` `[` of expression x.
+pub fn open_frame(s: &[u8], p: &mut [u32], x: u32, n: Next) -> Next
+    ensures { λ r. ⌜ FrameOpened (now (s .entry)) x n (now (p .entry)) (now (p .exit)) r ⌝ }
+{
+    if s.len() <= n.at {
+        return n;
+    }
+    let q = emit_steps::pass_frame(s, n.at);
+    let k = grammar::kind_at(s, q);
+    let d = slot_link(k, x, n.expressions);
+    table_updates::set_expression(p, x, ExpressionEntry::Frame(d));
+    emit_steps::go_to(n, q)
+}
+
+// ---- Slots and instructions
+
+// The name that stands there, as slot name of the next expression: its number.
+pub fn name_slot(
+    s: &[u8],
+    begins: &[usize],
+    ends: &[usize],
+    count: u32,
+    p: &mut [u32],
+    n: Next,
+) -> u32
+    ensures { λ r. ⌜ SlotNamed (now (s .entry)) (now (begins .entry)) (now (ends .entry)) count n (now (p .entry)) (now (p .exit)) r ⌝ }
+{
+    let k = emit_names::name_at(s, begins, ends, count, n.at);
+    table_updates::set_slot_name(p, n.expressions, k);
+    k
+}
+
+// The end of slot y, with its comma where there is one: its link.
+pub fn close_slot(s: &[u8], p: &mut [u32], y: u32, u: Next) -> Next
+    ensures { λ r. ⌜ SlotClosed (now (s .entry)) y u (now (p .entry)) (now (p .exit)) r ⌝ }
+{
+    let m = skip(s, u, 11);
+    let k = grammar::kind_at(s, m.at);
+    let d = slot_link(k, y, u.expressions);
+    table_updates::set_slot_link(p, y, d);
+    m
+}
+
+// The end of instruction i, with its `;`: its link.
+pub fn close_line(s: &[u8], p: &mut [u32], i: u32, u: Next) -> Next
+    ensures { λ r. ⌜ LineClosed (now (s .entry)) i u (now (p .entry)) (now (p .exit)) r ⌝ }
+{
+    let m = skip(s, u, 10);
+    let k = grammar::kind_at(s, m.at);
+    let d = line_link(k, i, u.instructions);
+    table_updates::set_instruction_link(p, i, d);
+    m
+}

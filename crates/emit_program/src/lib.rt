@@ -1,0 +1,100 @@
+// Program words and literal bytes of a source that load accepts.
+use emit_steps::Next;
+ghost use mathlib.Core.Path.{_≡_};
+ghost use Rattle.names.specs.Kept.{table-of};
+ghost use Rattle.sweep.specs.Decides.{Short};
+ghost use Rattle.emit_steps.specs.Steps.{numbers};
+ghost use Rattle.emit_program.specs.Written.{write-limits, write-counts, write-start, TreeWritten, HeaderWritten, TablesWritten, CanEmit, Emitted};
+
+// The limits, and how many there are of names and literals.
+fn write_limits(p: &mut [u32], f: u32, t: u32, names: u32, literals: u32)
+    ensures { λ _. ⌜ now (p .exit) ≡ write-limits (now (p .entry)) f t names literals ⌝ }
+{
+    table_updates::set_frame_limit(p, f);
+    table_updates::set_text_limit(p, t);
+    table_updates::set_names(p, names);
+    table_updates::set_literals(p, literals);
+}
+
+// How many there are of the rest, and the first slot of the program frame.
+fn write_counts(p: &mut [u32], n: Next, z: u32)
+    ensures { λ _. ⌜ now (p .exit) ≡ write-counts (now (p .entry)) (numbers n) z ⌝ }
+{
+    table_updates::set_expressions(p, n.expressions);
+    table_updates::set_instructions(p, n.instructions);
+    table_updates::set_codes(p, n.codes);
+    table_updates::set_path_names(p, n.paths);
+    table_updates::set_program_slots(p, z);
+}
+
+// The code of Main.start.
+fn write_start(s: &[u8], begins: &[usize], ends: &[usize], count: u32, p: &mut [u32])
+    ensures { λ _. ⌜ now (p .exit) ≡ write-start (table-of (now (s .entry)) (now (begins .entry)) (now (ends .entry)) count) (now (p .entry)) ⌝ }
+{
+    let main = emit_names::number_of(s, begins, ends, count, b"Main");
+    let start = emit_names::number_of(s, begins, ends, count, b"start");
+    let k = start_code::start_code(p, main, start);
+    table_updates::set_start(p, k);
+}
+
+// The header, where the tree, the names and the literals are written.
+fn write_header(
+    s: &[u8],
+    begins: &[usize],
+    ends: &[usize],
+    count: u32,
+    literals: u32,
+    n: Next,
+    f: u32,
+    t: u32,
+    p: &mut [u32],
+)
+    ensures { λ _. ⌜ HeaderWritten (now (s .entry)) (now (begins .entry)) (now (ends .entry)) count literals n f t (now (p .entry)) (now (p .exit)) ⌝ }
+{
+    write_limits(p, f, t, count, literals);
+    let z = emit_tree::first_slot_place(s);
+    write_counts(p, n, z);
+    write_start(s, begins, ends, count, p);
+}
+
+// The tree and the names: the numbers after the tree.
+fn write_tree(s: &[u8], begins: &[usize], ends: &[usize], count: u32, p: &mut [u32]) -> Next
+    requires { ⌜ Short (now s) ⌝ }
+    ensures { λ r. ⌜ TreeWritten (now (s .entry)) (now (begins .entry)) (now (ends .entry)) count (now (p .entry)) (now (p .exit)) r ⌝ }
+{
+    let n = emit_tree::emit_tree(s, begins, ends, count, p);
+    emit_names::write_names(s, begins, ends, count, p);
+    n
+}
+
+// Both memories, where the names are kept.
+fn write_tables(
+    s: &[u8],
+    begins: &[usize],
+    ends: &[usize],
+    count: u32,
+    f: u32,
+    t: u32,
+    p: &mut [u32],
+    l: &mut [u8],
+)
+    requires { ⌜ Short (now s) ⌝ }
+    ensures { λ _. ⌜ TablesWritten (now (s .entry)) (now (begins .entry)) (now (ends .entry)) count f t (now (p .entry)) (now (l .entry)) (now (p .exit)) (now (l .exit)) ⌝ }
+{
+    let n = write_tree(s, begins, ends, count, p);
+    let literals = emit_literals::write_literals(s, p, l);
+    write_header(s, begins, ends, count, literals, n, f, t, p);
+}
+
+// Both memories become those of the program of the source, with its limits.
+pub fn emit(s: &[u8], f: u32, t: u32, p: &mut [u32], l: &mut [u8])
+    requires { ⌜ CanEmit (now s) (now p) (now l) ⌝ }
+    ensures { λ _. ⌜ Emitted (now (s .entry)) f t (now (p .exit)) (now (l .exit)) ⌝ }
+{
+    let mut begins = [0usize; 129];
+    let mut ends = [0usize; 129];
+    clearing::clear_words(p);
+    clearing::clear_bytes(l);
+    let count = emit_names::keep_names(s, &mut begins, &mut ends);
+    write_tables(s, &begins, &ends, count, f, t, p, l);
+}

@@ -1,0 +1,5 @@
+pub mod Places
+pub mod Bases
+pub mod Lists
+pub mod Nesting
+pub mod Whole

@@ -1,0 +1,409 @@
+// The tree of a source written as program words: functions over a source and a position that call each other in a cycle, as the readers of `grammar` do.
+ghost use Rattle.names.specs.Kept.{table-of};
+ghost use Rattle.emit_paths.specs.Emits.{Emits};
+ghost use Rattle.emit_tree.specs.Members.{base-emitted, operand-emitted, expression-emitted, right-emitted, slots-emitted, instruction-emitted, code-emitted, BaseHere, BlockHere, ExpressionHere};
+ghost use Rattle.emit_tree.specs.Members.{NegationHere, BinaryHere, FrameHere, SlotsHere, SlotEmits, InstructionHere, ShowHere, JumpHere, IfeqHere, AssignHere, CodeHere, LineEmits};
+ghost use Rattle.emit_tree.specs.Tree.{TreeEmitted, FirstSlot};
+use emit_steps::Next;
+use emit_steps::Place;
+use tables::ExpressionEntry;
+use tables::InstructionEntry;
+
+// ---- Bases
+
+// `code` `{` instructions `}`
+fn block(
+    s: &[u8],
+    begins: &[usize],
+    ends: &[usize],
+    count: u32,
+    p: &mut [u32],
+    place: Place,
+    x: u32,
+    n: Next,
+) -> Next
+    ensures { λ r. ⌜ Emits (BlockHere place) (base-emitted place x) (now (s .entry)) (table-of (now (s .entry)) (now (begins .entry)) (now (ends .entry)) count) n (now (p .entry)) (now (p .exit)) r ⌝ }
+{
+    let m = emit_leaves::open_block(s, p, x, n);
+    if m.at <= n.at {
+        return m;
+    }
+    let inner = emit_steps::within_code(place);
+    let u = instructions(s, begins, ends, count, p, inner, m);
+    emit_leaves::skip(s, u, 15)
+}
+
+// Integer, string, path or code as expression x.
+fn base(
+    s: &[u8],
+    begins: &[usize],
+    ends: &[usize],
+    count: u32,
+    p: &mut [u32],
+    place: Place,
+    x: u32,
+    n: Next,
+) -> Next
+    ensures { λ r. ⌜ Emits (BaseHere place) (base-emitted place x) (now (s .entry)) (table-of (now (s .entry)) (now (begins .entry)) (now (ends .entry)) count) n (now (p .entry)) (now (p .exit)) r ⌝ }
+{
+    let k = grammar::kind_at(s, n.at);
+    if k == 28 {
+        return block(s, begins, ends, count, p, place, x, n);
+    }
+    if k < 26 {
+        return emit_bases::path_base(s, begins, ends, count, p, place, x, n);
+    }
+    if k == 26 {
+        return emit_leaves::integer(s, p, x, n);
+    }
+    emit_leaves::string(s, p, x, n)
+}
+
+// A base as the next expression.
+fn operand(
+    s: &[u8],
+    begins: &[usize],
+    ends: &[usize],
+    count: u32,
+    p: &mut [u32],
+    place: Place,
+    n: Next,
+) -> Next
+    ensures { λ r. ⌜ Emits (BaseHere place) (operand-emitted place) (now (s .entry)) (table-of (now (s .entry)) (now (begins .entry)) (now (ends .entry)) count) n (now (p .entry)) (now (p .exit)) r ⌝ }
+{
+    let x = n.expressions;
+    let m = emit_steps::one_expression(n, n.at);
+    base(s, begins, ends, count, p, place, x, m)
+}
+
+// ---- Expressions
+
+// `!` base
+fn negation(
+    s: &[u8],
+    begins: &[usize],
+    ends: &[usize],
+    count: u32,
+    p: &mut [u32],
+    place: Place,
+    x: u32,
+    n: Next,
+) -> Next
+    ensures { λ r. ⌜ Emits (NegationHere place) (expression-emitted place place x) (now (s .entry)) (table-of (now (s .entry)) (now (begins .entry)) (now (ends .entry)) count) n (now (p .entry)) (now (p .exit)) r ⌝ }
+{
+    let m = emit_leaves::skip(s, n, 9);
+    table_updates::set_expression(p, x, ExpressionEntry::Not(m.expressions));
+    operand(s, begins, ends, count, p, place, m)
+}
+
+// base operator base
+fn binary(
+    s: &[u8],
+    begins: &[usize],
+    ends: &[usize],
+    count: u32,
+    p: &mut [u32],
+    place: Place,
+    x: u32,
+    n: Next,
+) -> Next
+    ensures { λ r. ⌜ Emits (BinaryHere place) (expression-emitted place place x) (now (s .entry)) (table-of (now (s .entry)) (now (begins .entry)) (now (ends .entry)) count) n (now (p .entry)) (now (p .exit)) r ⌝ }
+{
+    let u = operand(s, begins, ends, count, p, place, n);
+    let v = emit_leaves::operator(s, p, x, n.expressions, u);
+    operand(s, begins, ends, count, p, place, v)
+}
+
+// `frame` `:` `[` slots `]`
+fn frame(
+    s: &[u8],
+    begins: &[usize],
+    ends: &[usize],
+    count: u32,
+    p: &mut [u32],
+    inner: Place,
+    x: u32,
+    n: Next,
+) -> Next
+    ensures { λ r. ⌜ Emits (FrameHere inner) (expression-emitted inner inner x) (now (s .entry)) (table-of (now (s .entry)) (now (begins .entry)) (now (ends .entry)) count) n (now (p .entry)) (now (p .exit)) r ⌝ }
+{
+    let m = emit_leaves::open_frame(s, p, x, n);
+    if m.at <= n.at {
+        return m;
+    }
+    let u = slots(s, begins, ends, count, p, inner, m);
+    emit_leaves::skip(s, u, 13)
+}
+
+// An expression as expression x; `inner` is the place of what is written in a frame that it is.
+fn expression(
+    s: &[u8],
+    begins: &[usize],
+    ends: &[usize],
+    count: u32,
+    p: &mut [u32],
+    place: Place,
+    inner: Place,
+    x: u32,
+    n: Next,
+) -> Next
+    ensures { λ r. ⌜ Emits (ExpressionHere place inner) (expression-emitted place inner x) (now (s .entry)) (table-of (now (s .entry)) (now (begins .entry)) (now (ends .entry)) count) n (now (p .entry)) (now (p .exit)) r ⌝ }
+{
+    let k = grammar::kind_at(s, n.at);
+    if k == 0 {
+        return frame(s, begins, ends, count, p, inner, x, n);
+    }
+    if k == 9 {
+        return negation(s, begins, ends, count, p, place, x, n);
+    }
+    if emit_leaves::operator_after(s, n.at) {
+        return binary(s, begins, ends, count, p, place, x, n);
+    }
+    base(s, begins, ends, count, p, place, x, n)
+}
+
+// An expression as the next expression.
+fn right(
+    s: &[u8],
+    begins: &[usize],
+    ends: &[usize],
+    count: u32,
+    p: &mut [u32],
+    place: Place,
+    inner: Place,
+    n: Next,
+) -> Next
+    ensures { λ r. ⌜ Emits (ExpressionHere place inner) (right-emitted place inner) (now (s .entry)) (table-of (now (s .entry)) (now (begins .entry)) (now (ends .entry)) count) n (now (p .entry)) (now (p .exit)) r ⌝ }
+{
+    let x = n.expressions;
+    let m = emit_steps::one_expression(n, n.at);
+    expression(s, begins, ends, count, p, place, inner, x, m)
+}
+
+// ---- Slots
+
+// One slot, whose expression begins at q.
+fn slot(
+    s: &[u8],
+    begins: &[usize],
+    ends: &[usize],
+    count: u32,
+    p: &mut [u32],
+    place: Place,
+    n: Next,
+    q: usize,
+) -> Next
+    ensures { λ r. ⌜ SlotEmits place (now (s .entry)) (table-of (now (s .entry)) (now (begins .entry)) (now (ends .entry)) count) n q (now (p .entry)) (now (p .exit)) r ⌝ }
+{
+    let k = emit_leaves::name_slot(s, begins, ends, count, p, n);
+    let inner = emit_steps::within_slot(place, k);
+    let m = emit_steps::go_to(n, q);
+    let u = right(s, begins, ends, count, p, place, inner, m);
+    emit_leaves::close_slot(s, p, n.expressions, u)
+}
+
+// Slots, parted by commas.
+fn slots(
+    s: &[u8],
+    begins: &[usize],
+    ends: &[usize],
+    count: u32,
+    p: &mut [u32],
+    place: Place,
+    n: Next,
+) -> Next
+    ensures { λ r. ⌜ Emits (SlotsHere place) (slots-emitted place) (now (s .entry)) (table-of (now (s .entry)) (now (begins .entry)) (now (ends .entry)) count) n (now (p .entry)) (now (p .exit)) r ⌝ }
+{
+    let mut m = n;
+    while m.at < s.len() {
+        let q = emit_steps::pass_two(s, m.at, 25, 6);
+        if q <= m.at {
+            return m;
+        }
+        m = slot(s, begins, ends, count, p, place, m, q);
+    }
+    m
+}
+
+// ---- Instructions
+
+// `show` base
+fn showing(
+    s: &[u8],
+    begins: &[usize],
+    ends: &[usize],
+    count: u32,
+    p: &mut [u32],
+    place: Place,
+    i: u32,
+    n: Next,
+) -> Next
+    ensures { λ r. ⌜ Emits (ShowHere place) (instruction-emitted place i) (now (s .entry)) (table-of (now (s .entry)) (now (begins .entry)) (now (ends .entry)) count) n (now (p .entry)) (now (p .exit)) r ⌝ }
+{
+    let m = emit_leaves::skip(s, n, 2);
+    table_updates::set_instruction(p, i, InstructionEntry::Show(m.expressions));
+    operand(s, begins, ends, count, p, place, m)
+}
+
+// `jump` base base
+fn jumping(
+    s: &[u8],
+    begins: &[usize],
+    ends: &[usize],
+    count: u32,
+    p: &mut [u32],
+    place: Place,
+    i: u32,
+    n: Next,
+) -> Next
+    ensures { λ r. ⌜ Emits (JumpHere place) (instruction-emitted place i) (now (s .entry)) (table-of (now (s .entry)) (now (begins .entry)) (now (ends .entry)) count) n (now (p .entry)) (now (p .exit)) r ⌝ }
+{
+    let m = emit_leaves::skip(s, n, 3);
+    let u = operand(s, begins, ends, count, p, place, m);
+    table_updates::set_instruction(p, i, InstructionEntry::Jump(m.expressions, u.expressions));
+    operand(s, begins, ends, count, p, place, u)
+}
+
+// `ifeq` base base base
+fn branching(
+    s: &[u8],
+    begins: &[usize],
+    ends: &[usize],
+    count: u32,
+    p: &mut [u32],
+    place: Place,
+    i: u32,
+    n: Next,
+) -> Next
+    ensures { λ r. ⌜ Emits (IfeqHere place) (instruction-emitted place i) (now (s .entry)) (table-of (now (s .entry)) (now (begins .entry)) (now (ends .entry)) count) n (now (p .entry)) (now (p .exit)) r ⌝ }
+{
+    let m = emit_leaves::skip(s, n, 4);
+    let u = operand(s, begins, ends, count, p, place, m);
+    let v = operand(s, begins, ends, count, p, place, u);
+    let e = InstructionEntry::Ifeq(m.expressions, u.expressions, v.expressions);
+    table_updates::set_instruction(p, i, e);
+    operand(s, begins, ends, count, p, place, v)
+}
+
+// path `:=` expression
+fn assigning(
+    s: &[u8],
+    begins: &[usize],
+    ends: &[usize],
+    count: u32,
+    p: &mut [u32],
+    place: Place,
+    i: u32,
+    n: Next,
+) -> Next
+    ensures { λ r. ⌜ Emits (AssignHere place) (instruction-emitted place i) (now (s .entry)) (table-of (now (s .entry)) (now (begins .entry)) (now (ends .entry)) count) n (now (p .entry)) (now (p .exit)) r ⌝ }
+{
+    let u = emit_leaves::assign_target(s, begins, ends, count, p, place, i, n);
+    right(s, begins, ends, count, p, place, place, u)
+}
+
+// An instruction as instruction i.
+fn instruction(
+    s: &[u8],
+    begins: &[usize],
+    ends: &[usize],
+    count: u32,
+    p: &mut [u32],
+    place: Place,
+    i: u32,
+    n: Next,
+) -> Next
+    ensures { λ r. ⌜ Emits (InstructionHere place) (instruction-emitted place i) (now (s .entry)) (table-of (now (s .entry)) (now (begins .entry)) (now (ends .entry)) count) n (now (p .entry)) (now (p .exit)) r ⌝ }
+{
+    let k = grammar::kind_at(s, n.at);
+    if k == 2 {
+        return showing(s, begins, ends, count, p, place, i, n);
+    }
+    if k == 3 {
+        return jumping(s, begins, ends, count, p, place, i, n);
+    }
+    if k == 4 {
+        return branching(s, begins, ends, count, p, place, i, n);
+    }
+    assigning(s, begins, ends, count, p, place, i, n)
+}
+
+// One instruction with its `;`
+fn line(
+    s: &[u8],
+    begins: &[usize],
+    ends: &[usize],
+    count: u32,
+    p: &mut [u32],
+    place: Place,
+    n: Next,
+) -> Next
+    ensures { λ r. ⌜ LineEmits place (now (s .entry)) (table-of (now (s .entry)) (now (begins .entry)) (now (ends .entry)) count) n (now (p .entry)) (now (p .exit)) r ⌝ }
+{
+    let i = n.instructions;
+    let m = emit_steps::one_instruction(n);
+    let u = instruction(s, begins, ends, count, p, place, i, m);
+    emit_leaves::close_line(s, p, i, u)
+}
+
+// Instructions, each closed by `;`, up to `}`.
+fn instructions(
+    s: &[u8],
+    begins: &[usize],
+    ends: &[usize],
+    count: u32,
+    p: &mut [u32],
+    place: Place,
+    n: Next,
+) -> Next
+    ensures { λ r. ⌜ Emits (CodeHere place) (code-emitted place) (now (s .entry)) (table-of (now (s .entry)) (now (begins .entry)) (now (ends .entry)) count) n (now (p .entry)) (now (p .exit)) r ⌝ }
+{
+    let mut m = n;
+    while m.at < s.len() {
+        let at = m.at;
+        let k = grammar::kind_at(s, at);
+        if k == 15 {
+            return m;
+        }
+        m = line(s, begins, ends, count, p, place, m);
+        if m.at <= at {
+            return m;
+        }
+    }
+    m
+}
+
+// ---- The tree
+
+// The slots of the program frame: the numbers after the tree.
+pub fn emit_tree(s: &[u8], begins: &[usize], ends: &[usize], count: u32, p: &mut [u32]) -> Next
+    ensures { λ r. ⌜ TreeEmitted (now (s .entry)) (now (begins .entry)) (now (ends .entry)) count (now (p .entry)) (now (p .exit)) r ⌝ }
+{
+    let q = emit_steps::pass_frame(s, 0);
+    let place = Place {
+        in_code: false,
+        depth: 0,
+        names: [0; 16],
+    };
+    let n = Next {
+        at: q,
+        expressions: 0,
+        instructions: 0,
+        paths: 0,
+        strings: 0,
+        codes: 0,
+    };
+    slots(s, begins, ends, count, p, place, n)
+}
+
+// The place of the first slot of the program frame.
+pub fn first_slot_place(s: &[u8]) -> u32
+    ensures { λ r. ⌜ FirstSlot (now (s .entry)) r ⌝ }
+{
+    let q = emit_steps::pass_frame(s, 0);
+    let k = grammar::kind_at(s, q);
+    if k == 25 {
+        return 1;
+    }
+    0
+}

@@ -1,0 +1,11 @@
+use borrow.Author.Needs.{needs}
+use Rattle.framed_c.proofs.Look.{text-copied}
+use Rattle.framed_c.proofs.framed_look_text.Statement.{statement}
+use Rattle.framed_c.proofs.framed_look_text.Tie as tie
+
+returns : tie.Need-returns
+returns c = search text-copied
+
+pub framed-look-text-spec : {M : Type 1} → statement M
+framed-look-text-spec = tie.close (tie.spec
+    (λ c κs. search needs) (λ c κs. search needs) (λ c. search needs) returns)

@@ -1,0 +1,4 @@
+pub mod Load
+pub mod Run
+pub mod Collect
+pub mod Look

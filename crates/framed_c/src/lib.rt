@@ -1,0 +1,106 @@
+// The calls for C and other languages (include/framed.h): answers as numbers, further results through cells that the caller lends. Each function is one
+// call of the crate that it names; a refused call leaves the cells as they were.
+use framed::CollectAnswer;
+use framed::LookAnswer;
+use framed::RunAnswer;
+ghost use Rattle.load.specs.Load.{memories};
+ghost use Rattle.framed_c.specs.Load.{LoadsInC};
+ghost use Rattle.framed_c.specs.Run.{RunsInC};
+ghost use Rattle.framed_c.specs.Collect.{CollectsInC};
+ghost use Rattle.framed_c.specs.Look.{LooksInC, LooksTextInC};
+
+#[no_mangle]
+pub extern "C" fn framed_load(
+    s: &[u8],
+    frames: u32,
+    texts: u32,
+    p: &mut [u32],
+    h: &mut [u32],
+    l: &mut [u8],
+    t: &mut [u8],
+) -> u32
+    ensures { λ r. ⌜ LoadsInC (memories (now (p .entry)) (now (h .entry)) (now (l .entry)) (now (t .entry))) (now (s .entry)) frames texts r (memories (now (p .exit)) (now (h .exit)) (now (l .exit)) (now (t .exit))) ⌝ }
+{
+    let a = load::load(s, frames, texts, p, h, l, t);
+    answers::load_number(a)
+}
+
+#[no_mangle]
+pub extern "C" fn framed_run(
+    p: &[u32],
+    h: &mut [u32],
+    l: &[u8],
+    t: &mut [u8],
+    fuel: u32,
+    out: &mut [u8],
+    steps: &mut u32,
+    bytes: &mut usize,
+) -> u32
+    ensures { λ r. ⌜ RunsInC (now (p .entry)) (now (h .entry)) (now (l .entry)) (now (t .entry)) fuel (now (out .entry)) (now (steps .entry)) (now (bytes .entry)) r (now (h .exit)) (now (t .exit)) (now (out .exit)) (now (steps .exit)) (now (bytes .exit)) ⌝ }
+{
+    match run::run(p, h, l, t, fuel, out) {
+        RunAnswer::Stopped(report) => {
+            *steps = report.steps;
+            *bytes = report.bytes;
+            let stop = report.stop;
+            answers::stop_number(stop)
+        }
+        RunAnswer::NotWellFormed => 20,
+    }
+}
+
+#[no_mangle]
+pub extern "C" fn framed_collect(
+    p: &[u32],
+    h: &mut [u32],
+    l: &[u8],
+    t: &[u8],
+    frames: &mut u32,
+    texts: &mut u32,
+) -> u32
+    ensures { λ r. ⌜ CollectsInC (now (p .entry)) (now (h .entry)) (now (l .entry)) (now (t .entry)) (now (frames .entry)) (now (texts .entry)) r (now (h .exit)) (now (frames .exit)) (now (texts .exit)) ⌝ }
+{
+    match collect::collect(p, h, l, t) {
+        CollectAnswer::Collected(totals) => {
+            *frames = totals.frames;
+            *texts = totals.texts;
+            0
+        }
+        CollectAnswer::NotWellFormed => 20,
+    }
+}
+
+#[no_mangle]
+pub extern "C" fn framed_look(
+    p: &[u32],
+    h: &[u32],
+    l: &[u8],
+    t: &[u8],
+    path: &[u8],
+    integer: &mut i32,
+) -> u32
+    ensures { λ r. ⌜ LooksInC (now (p .entry)) (now (h .entry)) (now (l .entry)) (now (t .entry)) (now (path .entry)) (now (integer .entry)) r (now (integer .exit)) ⌝ }
+{
+    let a = look::look(p, h, l, t, path);
+    let LookAnswer::Integer(n) = a else {
+        return answers::look_number(a);
+    };
+    *integer = n;
+    1
+}
+
+#[no_mangle]
+pub extern "C" fn framed_look_text<'a>(
+    p: &[u32],
+    h: &[u32],
+    l: &'a [u8],
+    t: &'a [u8],
+    path: &[u8],
+    out: &mut [u8],
+) -> usize
+    ensures { λ r. ⌜ LooksTextInC (now (p .entry)) (now (h .entry)) (now (l .entry)) (now (t .entry)) (now (path .entry)) (now (out .entry)) r (now (out .exit)) ⌝ }
+{
+    let bytes = look::look_text(p, h, l, t, path);
+    splice::write(out, 0, bytes);
+    bytes.len()
+}

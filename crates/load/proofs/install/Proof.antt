@@ -1,0 +1,60 @@
+use Rattle.load.proofs.Laws.{install-can-emit, install-can-start, install-done}
+use borrow.Author.Needs.{needs}
+use Rattle.load.proofs.install.Statement.{statement}
+use Rattle.load.proofs.install.Tie as tie
+use Rattle.load.proofs.install.Reads as reads
+use Rattle.load.proofs.install.Lts as lts
+use Rattle.clearing.proofs.clear_bytes.Reads as clear-bytes-reads
+use Rattle.clearing.proofs.clear_words.Reads as clear-words-reads
+use Rattle.emit_program.proofs.emit.Reads as emit-reads
+use Rattle.start_state.proofs.start.Reads as start-reads
+
+-- src/lib.rt:19:5
+emit-requires : tie.Need-emit-requires
+emit-requires c κs = search install-can-emit
+
+-- src/lib.rt:20:5
+clear-words-requires : tie.Need-clear-words-requires
+clear-words-requires c κs = search needs
+
+-- src/lib.rt:21:5
+clear-bytes-requires : tie.Need-clear-bytes-requires
+clear-bytes-requires c κs = search needs
+
+-- src/lib.rt:22:5
+start-requires : tie.Need-start-requires
+start-requires c κs = search install-can-start
+
+-- src/lib.rt:7:1
+same-length : tie.Need-same-length
+same-length c = search needs
+
+-- src/lib.rt:7:1
+same-length-2 : tie.Need-same-length-2
+same-length-2 c = search needs
+
+-- src/lib.rt:7:1
+same-length-3 : tie.Need-same-length-3
+same-length-3 c = search needs
+
+-- src/lib.rt:7:1
+same-length-4 : tie.Need-same-length-4
+same-length-4 c = search needs
+
+-- src/lib.rt:7:1
+returns : tie.Need-returns
+returns c = search install-done
+
+pub install-spec : {M : Type 1} → statement M
+install-spec =
+    tie.close
+    (tie.spec
+    emit-requires
+    clear-words-requires
+    clear-bytes-requires
+    start-requires
+    same-length
+    same-length-2
+    same-length-3
+    same-length-4
+    returns)

@@ -1,0 +1,1 @@
+// What the bounded machine asks of a program, from well-formed program words: definitions and laws only.

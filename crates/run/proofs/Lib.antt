@@ -1,0 +1,4 @@
+pub mod Ways
+pub mod Follows
+pub mod Means
+pub mod Laws

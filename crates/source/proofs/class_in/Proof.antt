@@ -1,0 +1,16 @@
+use borrow.Author.Needs.{needs}
+use Rattle.source.proofs.class_in.Statement.{statement}
+use Rattle.source.proofs.class_in.Tie as tie
+use Rattle.source.proofs.class_in.Reads as reads
+use Rattle.source.proofs.class_in.Lts as lts
+
+-- src/lib.rt:280:5
+element-copy-out-result : tie.Need-element-copy-out-result
+element-copy-out-result c = search needs
+
+-- src/lib.rt:275:1
+returns : tie.Need-returns
+returns c = c .before .pre .rule _ (search needs)
+
+pub class-in-spec : {M : Type 1} → statement M
+class-in-spec = tie.close (tie.spec element-copy-out-result returns)

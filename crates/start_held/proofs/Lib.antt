@@ -1,0 +1,5 @@
+pub mod Fits
+pub mod Constants
+pub mod Same
+pub mod Alike
+pub mod Start

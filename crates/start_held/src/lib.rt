@@ -1,0 +1,1 @@
+// The memories that load leaves hold the start of the program: statement in specs/, proofs in proofs/.

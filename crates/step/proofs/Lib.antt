@@ -1,0 +1,5 @@
+pub mod Reserve
+pub mod Ends
+pub mod Line
+pub mod Runs
+pub mod Laws

@@ -1,0 +1,101 @@
+-- The line of an instruction, and what there being space for it, or not, says. Assumes nothing.
+use Prim.Native.Nat.{ℕ, _-_, _≤_, _<_}
+use mathlib.Core.Path.{_≡_, refl, _∙_, ap, sym}
+use mathlib.Core.List.{List, [], _∷_}
+use mathlib.Core.Bool.{Bool, true, false}
+use native.Mathlib.Omega.{arith}
+use lib.Dec.{leb}
+use lib.ListN.{length}
+use types.Run.{OneOf, miss}
+use denote.Enum.Declared.{tagOf}
+use borrow.Author.Tests.{le-leb, lt-leb}
+use Rattle.words.specs.Words.{pick}
+use Rattle.framed.specs.declared.Value.{Value}
+use Rattle.framed.specs.Values.{Heap}
+use Rattle.tables.specs.declared.InstructionEntry.{InstructionEntry}
+use Rattle.tables.proofs.InstructionEntry.{the-type}
+use Rattle.tables.specs.Entries.{instruction-at}
+use Rattle.trees.proofs.Held.{assign-self-held, assign-program-held, show-held, jump-held, ifeq-held}
+use Rattle.heap.specs.Held.{texts-held, heap-held}
+use Rattle.texts.specs.Literals.{literals-held}
+use Rattle.splice.specs.Splice.{splice}
+use Rattle.line.specs.Line.{line-bytes, line-size}
+use Rattle.line.proofs.Laws.{line-size-is}
+use Rattle.operands.specs.Operands.{operand-value}
+use Rattle.bounded.specs.Bounded.{value-given, heap-in, line}
+use Rattle.word_store.specs.Store.{word-store}
+use Rattle.word_store.specs.State.{store-held, state-held}
+use Rattle.evaluation.proofs.Stores.{heap-is, frames-are}
+use Rattle.evaluation.proofs.Simple.{strings-are}
+use Rattle.step.specs.declared.Shown.{Shown}
+use Rattle.step.specs.Step.{line-held, CanShow, show-line, Showing, showing, Shows}
+
+module _ (p l h t : List ℕ) (i : ℕ) (out : List ℕ) (used : ℕ) (can : CanShow p l h t i out used) (e : InstructionEntry) (ee : e ≡ instruction-at p i) where
+  -- no line
+  none : (e : InstructionEntry) → instruction-at p i ≡ e → OneOf (0 ∷ 1 ∷ 3 ∷ 4 ∷ 5 ∷ []) (tagOf the-type e) → line-held p l h t i ≡ []
+  unfolding line-held line
+  none (InstructionEntry.AssignSelf j n x) q k = rw (assign-self-held p l (can .program) i (can .there) j n x q)
+  none (InstructionEntry.AssignProgram j n x) q k = rw (assign-program-held p l (can .program) i (can .there) j n x q)
+  none (InstructionEntry.Show a) q k = absurd (miss (0 ∷ 1 ∷ 3 ∷ 4 ∷ 5 ∷ []) 2 tt k)
+  none (InstructionEntry.Jump a c) q k = rw (jump-held p l (can .program) i (can .there) a c q)
+  none (InstructionEntry.Ifeq a c d) q k = rw (ifeq-held p l (can .program) i (can .there) a c d q)
+  none InstructionEntry.Bad q k = absurd (can .program .entries .instruction i (can .there) .formed q)
+
+  pub show-none : OneOf (0 ∷ 1 ∷ 3 ∷ 4 ∷ 5 ∷ []) (tagOf the-type e) → Shows p l h t i out used (Shown.Written 0) out
+  unfolding show-line splice
+  show-none o = record { exact = rw (none e (sym ee) o, le-leb 0 (length out - used) (omega arith)) }
+
+  -- that of a show
+  module _ (a : ℕ) (is : e ≡ InstructionEntry.Show a) (v : Value) (ev : v ≡ value-given (operand-value p h a)) (n : ℕ) (en : n ≡ line-size p h v) where
+    texts-are : heap-in word-store (store-held h t) .texts ≡ texts-held h t
+    unfolding heap-held
+    texts-are = ap (λ (H : Heap). H .texts) (heap-is h t)
+
+    is-line : line-held p l h t i ≡ line-bytes (literals-held p l) (texts-held h t) v
+    unfolding line-held line state-held line-bytes operand-value
+    is-line = rw (show-held p l (can .program) i (can .there) a (sym ee ∙ is), strings-are p l, texts-are, frames-are h t, ev)
+
+    size : length (line-held p l h t i) ≡ n
+    size = ap length is-line ∙ line-size-is p l h t v ∙ sym en
+
+    pub show-too-long : length out - used < n → Shows p l h t i out used Shown.TooLong out
+    unfolding show-line
+    show-too-long lt = record { exact = rw (size, lt-leb n (length out - used) lt) }
+
+    pub show-written : n ≤ length out - used → (out′ : List ℕ) → out′ ≡ splice out used (line-bytes (literals-held p l) (texts-held h t) v) → Shows p l h t i out used (Shown.Written n) out′
+    unfolding show-line
+    show-written le out′ eo = record { exact = rw (size, le-leb n (length out - used) le, is-line, ← eo) }
+
+-- ---- Back from the answer
+
+module _ (bs out : List ℕ) (used : ℕ) (out′ : List ℕ) where
+  pub record Longer : Type 0 where
+    pub test : leb (length bs) (length out - used) ≡ false
+    pub output : out′ ≡ out
+
+  pub record Written (n : ℕ) : Type 0 where
+    pub test : leb (length bs) (length out - used) ≡ true
+    pub size : n ≡ length bs
+    pub output : out′ ≡ splice out used bs
+
+  pub too-long : show-line bs out used ≡ showing Shown.TooLong out′ → Longer
+  unfolding show-line
+  too-long = go (leb (length bs) (length out - used)) refl
+    where
+      go : (b : Bool) → leb (length bs) (length out - used) ≡ b →
+          pick b (showing (Shown.Written (length bs)) (splice out used bs)) (showing Shown.TooLong out) ≡ showing Shown.TooLong out′ → Longer
+      go true q e = absurd (let a : Shown.Written (length bs) ≡ Shown.TooLong = ap (λ (x : Showing). x .answer) e in let z : _≡_ {A = ℕ} 0 1 = cc in omega arith)
+      go false q e = record { test = q; output = sym (ap (λ (x : Showing). x .output) e) }
+
+  pub written : (n : ℕ) → show-line bs out used ≡ showing (Shown.Written n) out′ → Written n
+  unfolding show-line
+  written n = go (leb (length bs) (length out - used)) refl
+    where
+      go : (b : Bool) → leb (length bs) (length out - used) ≡ b →
+          pick b (showing (Shown.Written (length bs)) (splice out used bs)) (showing Shown.TooLong out) ≡ showing (Shown.Written n) out′ → Written n
+      go true q e = record {
+        test = q;
+        size = let a : Shown.Written (length bs) ≡ Shown.Written n = ap (λ (x : Showing). x .answer) e in cc;
+        output = sym (ap (λ (x : Showing). x .output) e);
+      }
+      go false q e = absurd (let a : Shown.TooLong ≡ Shown.Written n = ap (λ (x : Showing). x .answer) e in let z : _≡_ {A = ℕ} 0 1 = cc in omega arith)

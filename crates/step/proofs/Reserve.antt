@@ -1,0 +1,57 @@
+-- Reserve for an instruction: f and t counted up to 257 say the same, and what makes nothing has room. Assumes nothing.
+use Prim.Native.Nat.{ℕ, _+_, _≤_, _<_}
+use mathlib.Core.Path.{_≡_, _∙_, sym}
+use mathlib.Core.List.{List}
+use native.Mathlib.Omega.{arith}
+use native.Mathlib.Decide.{decLt}
+use lib.ListN.{length}
+use borrow.Author.Tests.{le-ltb}
+use Rattle.tables.specs.Fields.{frame-limit, text-limit}
+use Rattle.heap.specs.Held.{frames-in-use, texts-in-use}
+use Rattle.needs.specs.Needs.{cap}
+use Rattle.needs.proofs.Cap.{cap-small, cap-compares}
+use Rattle.reserving.specs.Reserving.{room-end-held, reserved-words, Reserves}
+use Rattle.step.specs.Step.{frames-for, texts-for, CanReserve}
+
+cap-zero : (n : ℕ) → cap n ≡ 0 → n ≡ 0
+unfolding cap
+cap-zero n e = go (decLt n 257)
+  where
+    go : Dec (n < 257) → n ≡ 0
+    go (yes lt) = sym (cap-small n lt) ∙ e
+    go (no ge) = absurd (let z : _≡_ {A = ℕ} 257 0 = rw (le-ltb n 257 (omega arith)) at e in omega arith)
+
+module _ (p : List ℕ) (f n : ℕ) (F-most : frame-limit p ≤ 256) (T-most : text-limit p ≤ 256) where
+  capped-end : (h : List ℕ) → room-end-held p h (cap f) (cap n) ≡ room-end-held p h f n
+  unfolding room-end-held
+  capped-end h = rw (cap-compares (frame-limit p) (length (frames-in-use h)) f F-most, cap-compares (text-limit p) (length (texts-in-use h)) n T-most)
+
+  capped-words : (h : List ℕ) → reserved-words p h (cap f) (cap n) ≡ reserved-words p h f n
+  unfolding reserved-words
+  capped-words h = rw (capped-end h)
+
+module _ (p h : List ℕ) (few : length (frames-in-use h) ≤ frame-limit p) (few-texts : length (texts-in-use h) ≤ text-limit p) where
+  no-need : room-end-held p h 0 0 ≡ 0
+  unfolding room-end-held
+  no-need = rw (le-ltb (frame-limit p) (length (frames-in-use h) + 0) (omega arith), le-ltb (text-limit p) (length (texts-in-use h) + 0) (omega arith))
+
+  nothing-reserved : Reserves p h 0 0 0 h
+  unfolding reserved-words
+  nothing-reserved = record { words = rw no-need; end = sym no-need }
+
+module _ (p h : List ℕ) (i : ℕ) (can : CanReserve p h i) (f n : ℕ) (ef : f ≡ cap (frames-for p i)) (en : n ≡ cap (texts-for p i)) where
+  pub reserve-counted : (r : ℕ) (h′ : List ℕ) → Reserves p h f n r h′ → Reserves p h (frames-for p i) (texts-for p i) r h′
+  reserve-counted r h′ k =
+      let F = can .at .program .entries .limits .F-most in
+      let T = can .at .program .entries .limits .T-most in
+      record {
+        words = rw (ef, en) at (k .words) ∙ capped-words p (frames-for p i) (texts-for p i) F T h;
+        end = rw (ef, en) at (k .end) ∙ capped-end p (frames-for p i) (texts-for p i) F T h′;
+      }
+
+  pub reserve-nothing : (m : ℕ) → m ≡ cap (f + n) → m ≡ 0 → Reserves p h (frames-for p i) (texts-for p i) 0 h
+  reserve-nothing m em z =
+      let s = cap-zero (f + n) (sym em ∙ z) in
+      let a : f ≡ 0 = omega arith in
+      let b : n ≡ 0 = omega arith in
+      rw (cap-zero (frames-for p i) (sym ef ∙ a), cap-zero (texts-for p i) (sym en ∙ b)) (nothing-reserved p h (can .frames-few) (can .texts-few))

@@ -1,0 +1,1 @@
+// What the words after one step hold, from the definitions alone: laws only.
