@@ -1,18 +1,19 @@
 -- The loop that looks for the lowest number that does not pass a test, and what the number is. Assumes nothing.
 use Prim.Native.Nat.{ℕ, zero, suc, _+_, _-_, _≤_, _<_}
-use mathlib.Core.Path.{_≡_, refl, _∙_, ap}
+use mathlib.Core.Path.{_≡_, refl, _∙_, ap, sym}
 use mathlib.Core.List.{List}
 use mathlib.Core.Bool.{Bool, true, false, not}
 use native.Mathlib.Omega.{arith}
-use native.Mathlib.Decide.{ℕ-discrete}
+use native.Mathlib.Decide.{ℕ-discrete, decLe}
 use lib.ListN.{length}
 use borrow.Author.Tests.{not-true, not-false}
 use Rattle.words.specs.Words.{pick}
 use Rattle.heap.specs.Words.{frame-used, text-used}
 use Rattle.heap.specs.Lists.{passing}
 use Rattle.heap.specs.Held.{frames-in-use, texts-in-use}
-use Rattle.heap.proofs.Lists.{passing-yes}
+use Rattle.heap.proofs.Lists.{passing-yes, passing-below}
 use Rattle.allocation.specs.Allocation.{lowest-from, next-frame, next-text}
+use Rattle.allocation.specs.Known.{FullBelow, Knows}
 
 -- ---- The loop: what is found from i on is the answer
 
@@ -42,6 +43,20 @@ module _ (t : ℕ → Bool) (i : ℕ) (a : Seek t i) where
 
     pub seek-again : not b ≡ false → Seek t (i + 1)
     seek-again e = record { inside = omega arith; rest = rw (not-false b e) at seek-turn }
+
+-- it may begin where all below pass
+seek-from : (t : ℕ → Bool) (i : ℕ) → i ≤ 256 → ((k : ℕ) → k < i → t k ≡ true) → Seek t i
+seek-from t zero le p = seek-start t
+seek-from t (suc i) le p =
+    let e : i + 1 ≡ suc i = omega arith in
+    rw e at (seek-again t i (seek-from t i (omega arith) (λ k l. p k (omega arith))) (omega arith) true (sym (p i (omega arith))) refl)
+
+pub seek-full : (h : List ℕ) (low : ℕ) → FullBelow h low → Seek (frame-used h) low
+seek-full h low a = go (decLe low 256)
+  where
+    go : Dec (low ≤ 256) → Seek (frame-used h) low
+    go (yes le) = seek-from (frame-used h) low le (λ k lt. a .in-use k lt .used)
+    go (no gt) = absurd (let q = a .in-use 256 (omega arith) .small in omega arith)
 
 -- ---- What the number is
 
@@ -107,3 +122,22 @@ module _ (h : List ℕ) where
     pub next-text-free : text-used h (next-text h) ≡ false
     unfolding next-text
     next-text-free = lowest-is (text-used h) 256 0 .free next-text-below
+
+  -- ---- What is known
+
+  pub none-below : FullBelow h 0
+  none-below = record { in-use = λ g lt. absurd (omega arith) }
+
+  pub next-full : FullBelow h (next-frame h)
+  unfolding next-frame
+  next-full =
+      let a = lowest-is (frame-used h) 256 0 in
+      record { in-use = λ g lt. record { small = omega (arith, a .bound); used = a .before g (omega arith) lt } }
+
+  pub always-known : Knows h 0 0 (record { frames = 256; texts = 256; low = 0 })
+  unfolding frames-in-use texts-in-use
+  always-known = record {
+    frames = omega (arith, passing-below (frame-used h) 256);
+    texts = omega (arith, passing-below (text-used h) 256);
+    full = none-below;
+  }

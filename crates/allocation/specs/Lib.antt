@@ -1,1 +1,2 @@
 pub mod Allocation
+pub mod Known

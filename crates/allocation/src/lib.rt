@@ -1,12 +1,21 @@
 // The number that the next new frame and the next new made text take: the lowest that is not in use. How many are in use, the crate heap counts.
 ghost use mathlib.Core.Path.{_≡_};
 ghost use Rattle.allocation.specs.Allocation.{next-frame, next-text};
+ghost use Rattle.allocation.specs.Known.{FullBelow};
 
-// The lowest frame number not in use, 256 where all are.
-pub fn lowest_frame(h: &[u32]) -> u32
+// What is known of the numbers in use: at most so many frames and made texts are, and every frame below `low` is.
+pub struct Known {
+    pub frames: u32,
+    pub texts: u32,
+    pub low: u32,
+}
+
+// The lowest frame number not in use, 256 where all are; those below `low` are.
+pub fn lowest_frame(h: &[u32], low: u32) -> u32
+    requires { ⌜ FullBelow (now h) low ⌝ }
     ensures { λ r. ⌜ r ≡ next-frame (now (h .entry)) ⌝ }
 {
-    let mut f = 0u32;
+    let mut f = low;
     while f < 256 {
         if !heap::frame_used(h, f) {
             return f;

@@ -9,14 +9,14 @@ use lib.Dec.{leb}
 use Rattle.framed.specs.Tree.{Instruction, Code, _then_}
 use Rattle.framed.specs.Paths.{Path}
 use Rattle.framed.specs.Program.{Program}
-use Rattle.framed.specs.Machine.{State, step, marked}
+use Rattle.framed.specs.Machine.{State, step, marked, frame-literals, join-signs, right-side}
 use Rattle.framed.specs.Answers.{Stopped, Report}
 use Rattle.framed.specs.Calls.{Unbounded, advanced, ended, attempted, Position, at-end, before, position-in, position, Call, run-call, collect-call}
 use Rattle.framed.specs.Calls as C
 use Rattle.bounded.specs.Views.{entries}
 use Rattle.bounded.specs.Fits.{CodeFits, ProgramFits}
 use Rattle.bounded.specs.Store.{Store, Laws}
-use Rattle.bounded.specs.Bounded.{Bounded, with-mark, state-of, line, commit, ready, step-end, Ran, stopped, one-more, run, collected, Session, first-report, calls}
+use Rattle.bounded.specs.Bounded.{Bounded, with-mark, state-of, reserved, line, commit, ready, step-end, Ran, stopped, one-more, run, collected, Session, first-report, calls}
 use Rattle.bounded.specs.Relation.{Related}
 use Rattle.bounded.specs.Theorems.{place, RunWays, SameRun, SameSession}
 use Rattle.bounded.proofs.UnboundedRuns.{run-at-end, run-unfuelled, run-ends, run-output, run-steps, before-is, step-ends}
@@ -164,7 +164,7 @@ module _ {S : Type 0} (𝓞 : Store S) (p : Program) (F T : ℕ) where
             subst (λ (z : Ran 𝓞). Same z (C.run p F T (suc fuel) space u)) (sym d) (subst (λ (z : C.Ran). Same x z) (sym e) s)
 
         goes : (i : Instruction Path) (rest : Code Path) → at b ≡ before i rest → (T′ : Steps 𝓞 p 𝓛 fits F T small-F small-T b (u .state) i rest) →
-            (D : Commits 𝓞 p 𝓛 fits F T small-F small-T (u .state) (step-end 𝓞 p F T b i) (line 𝓞 p (ready 𝓞 F T b i) i) (commit 𝓞 p (ready 𝓞 F T b i) rest i) (step p F T (u .state) i rest)) →
+            (D : Commits 𝓞 p 𝓛 fits F T small-F small-T (𝓞 .view (reserved 𝓞 F T b i)) (frame-literals (right-side i)) (join-signs (right-side i)) (u .state) (step-end 𝓞 p F T b i) (line 𝓞 p (ready 𝓞 F T b i) i) (commit 𝓞 p (ready 𝓞 F T b i) rest i) (step p F T (u .state) i rest)) →
             Later → (t : Bool) → leb (length (D .effect .line)) space ≡ t → Goal
         goes i rest q T′ D k false l =
             by (bounded-lined fuel space b i rest false q (D .passes) (ap (λ (m : List ℕ). leb (length m) space) (D .same-line) ∙ l))
@@ -181,7 +181,7 @@ module _ {S : Type 0} (𝓞 : Store S) (p : Program) (F T : ℕ) where
         given : (i : Instruction Path) (rest : Code Path) → at b ≡ before i rest → Steps 𝓞 p 𝓛 fits F T small-F small-T b (u .state) i rest → Later → Goal
         given i rest q T′ k = cases (T′ .outcome)
           where
-            cases : Performs 𝓞 p 𝓛 fits F T small-F small-T (u .state) (step-end 𝓞 p F T b i) (line 𝓞 p (ready 𝓞 F T b i) i) (commit 𝓞 p (ready 𝓞 F T b i) rest i) (step p F T (u .state) i rest) → Goal
+            cases : Performs 𝓞 p 𝓛 fits F T small-F small-T (𝓞 .view (reserved 𝓞 F T b i)) (frame-literals (right-side i)) (join-signs (right-side i)) (u .state) (step-end 𝓞 p F T b i) (line 𝓞 p (ready 𝓞 F T b i) i) (commit 𝓞 p (ready 𝓞 F T b i) rest i) (step p F T (u .state) i rest) → Goal
             cases (inl z) =
                 by (bounded-ends fuel space b i rest (z .0) q (z .1)) (run-ends p F T fuel space u i rest (suc (z .0)) (sym (same-position b (u .state) A) ∙ q) (z .2))
                 (stopped-same (Stopped.end (suc (z .0))) (with-mark (suc (z .0)) (ready 𝓞 F T b i)) (ended (suc (z .0)) u)

@@ -17,7 +17,7 @@ use Rattle.framed.specs.Values.{Frame, Heap, with-slots, shown, truth}
 use Rattle.framed.specs.Fetch.{get}
 use Rattle.framed.specs.Machine.{State, Effect, Result, gives, ends, defined, base-value, frame-number, put-slot, put, set-slot, with-frames, assign-to, code-of, jump-to, perform, frame-literals, join-signs, right-side, step, after-step}
 use Rattle.framed.specs.Machine as M
-use Rattle.bounded.specs.Views.{View, frame-at, all-used, entries, frames-used, texts-used, FrameWritten}
+use Rattle.bounded.specs.Views.{View, frame-at, all-used, entries, frames-used, texts-used, FrameWritten, Takes}
 use Rattle.bounded.specs.Fits.{Valid, NamesFit, BaseFits, ExpressionFits, InstructionFits, CodeFits, ProgramFits}
 use Rattle.bounded.specs.Store.{Store, Laws}
 use Rattle.bounded.specs.Check.{end-of, first-end, Target, target, has-place, slot-end, target-end, check-put, check-expression, Jump, jump-result, ifeq-end, check}
@@ -98,17 +98,19 @@ module _ {S : Type 0} (𝓞 : Store S) (p : Program) (𝓛 : Laws 𝓞 p) (fits 
       step undefined y = stays
       step (reads {v = v} x) y = at-code v y
 
-  -- what a rule that does not end gives: c is the check's answer, l and b′ the line and the state of the commit, o what the unbounded machine gives
-  pub record Commits (s : State) (c : ℕ) (l : List ℕ) (b′ : Bounded S) (o : Result Effect) : Type 1 where
+  -- what a rule that does not end gives: c is the check's answer, l and b′ the line and the state of the commit, o what the unbounded machine gives; the store showed K,
+  -- and there was room for f frames and n texts
+  pub record Commits (K : View) (f n : ℕ) (s : State) (c : ℕ) (l : List ℕ) (b′ : Bounded S) (o : Result Effect) : Type 1 where
     pub passes : c ≡ 0
     pub effect : Effect
     pub result-is : o ≡ gives effect
     pub same-line : l ≡ effect .line
     pub related : Related 𝓞 p 𝓛 F T b′ (after-step s effect)
+    pub takes : Takes K (view (b′ .store)) f n
 
   -- it ends in both, and alike; or it does not
-  abbrev pub Performs : State → ℕ → List ℕ → Bounded S → Result Effect → Type 1
-  Performs s c l b′ o = ((n : ℕ) × (c ≡ suc n) × (o ≡ ends (suc n))) ⊎ Commits s c l b′ o
+  abbrev pub Performs : View → (f n : ℕ) → State → ℕ → List ℕ → Bounded S → Result Effect → Type 1
+  Performs K f n s c l b′ o = ((n : ℕ) × (c ≡ suc n) × (o ≡ ends (suc n))) ⊎ Commits K f n s c l b′ o
 
   module _ {b : Bounded S} {s : State} (A : Related 𝓞 p 𝓛 F T b s) (rest : Code Path) (rest-fits : CodeFits p rest) where
     abbrev H : View
@@ -116,6 +118,9 @@ module _ {S : Type 0} (𝓞 : Store S) (p : Program) (𝓛 : Laws 𝓞 p) (fits 
 
     ok : WellFormed 𝓞 p 𝓛 F T b
     ok = A .well-formed
+
+    nothing-taken : Takes H H 0 0
+    nothing-taken = record { frames = omega arith; texts = omega arith; stays = λ m x e. (x, e) }
 
     -- the same heap, with other remaining instructions and another self
     moved : (is : Code Path) → CodeFits p is → {v w : Value} → ValueRel (A .relation) v w → Valid p H v → (l : List ℕ) →
@@ -142,13 +147,13 @@ module _ {S : Type 0} (𝓞 : Store S) (p : Program) (𝓛 : Laws 𝓞 p) (fits 
     -- ---- Show
 
     show-out : (a : Base Path) →
-        Performs s (check p (b .self) (b .program) (H .heap) (Instruction.show a)) (line 𝓞 p b (Instruction.show a)) (commit 𝓞 p b rest (Instruction.show a))
+        Performs H 0 0 s (check p (b .self) (b .program) (H .heap) (Instruction.show a)) (line 𝓞 p b (Instruction.show a)) (commit 𝓞 p b rest (Instruction.show a))
         (perform p (s .self) (s .program) (s .heap) rest (Instruction.show a))
     unfolding check line commit perform end-of value-given M._>>=_
     show-out a = step (base-rel (A .heaps) (A .self) (A .program) a)
       where
         step : {x y : Result Value} → BaseRel (A .relation) x y →
-            Performs s (end-of x) (shown (p .literals) (H .heap .texts) (value-given x) ++ (10 ∷ [])) (goes-on 𝓞 b rest (b .self) (b .program) (b .store))
+            Performs H 0 0 s (end-of x) (shown (p .literals) (H .heap .texts) (value-given x) ++ (10 ∷ [])) (goes-on 𝓞 b rest (b .self) (b .program) (b .store))
             (M._>>=_ y (λ v. gives (record { remaining = rest; self = s .self; program = s .program; heap = s .heap; line = shown (p .literals) (s .heap .texts) v ++ (10 ∷ []) })))
         step both-end = inl (30, refl, refl)
         step (both-give r) = inr (record {
@@ -157,30 +162,31 @@ module _ {S : Type 0} (𝓞 : Store S) (p : Program) (𝓛 : Laws 𝓞 p) (fits 
           result-is = refl;
           same-line = ap (λ (l : List ℕ). l ++ (10 ∷ [])) (shown-rel (A .heaps) (p .literals) r);
           related = moved rest rest-fits (A .self) (ok .self) _;
+          takes = nothing-taken;
         })
 
     -- ---- Jump and ifeq
 
-    jumps : {x y : Result Jump} → JumpRel (A .relation) x y → JumpValid H x → Performs s (end-of x) [] (commit-jump 𝓞 b x) (jumped (s .program) (s .heap) y)
+    jumps : {x y : Result Jump} → JumpRel (A .relation) x y → JumpValid H x → Performs H 0 0 s (end-of x) [] (commit-jump 𝓞 b x) (jumped (s .program) (s .heap) y)
     unfolding end-of commit-jump jumped
     jumps none-jumps a = inl (30, refl, refl)
-    jumps (both-jump r) (goes f a) = inr (record { passes = refl; effect = _; result-is = refl; same-line = refl; related = moved _ f r a [] })
+    jumps (both-jump r) (goes f a) = inr (record { passes = refl; effect = _; result-is = refl; same-line = refl; related = moved _ f r a []; takes = nothing-taken })
 
     jump-to-out : (a c : Base Path) → BaseFits p a → BaseFits p c →
-        Performs s (end-of (jump-result (p .codes) (b .self) (b .program) (H .heap .frames) a c)) []
+        Performs H 0 0 s (end-of (jump-result (p .codes) (b .self) (b .program) (H .heap .frames) a c)) []
         (commit-jump 𝓞 b (jump-result (p .codes) (b .self) (b .program) (H .heap .frames) a c)) (jump-to p (s .self) (s .program) (s .heap) a c)
     jump-to-out a c f g =
         rw (jump-is p (s .self) (s .program) (s .heap) a c)
         (jumps (jump-rel (A .heaps) (A .self) (A .program) (p .codes) a c) (jump-valid (ok .store) (ok .self) (ok .program) a c f g))
 
     jump-out : (a c : Base Path) → BaseFits p a → BaseFits p c →
-        Performs s (check p (b .self) (b .program) (H .heap) (Instruction.jump a c)) (line 𝓞 p b (Instruction.jump a c)) (commit 𝓞 p b rest (Instruction.jump a c))
+        Performs H 0 0 s (check p (b .self) (b .program) (H .heap) (Instruction.jump a c)) (line 𝓞 p b (Instruction.jump a c)) (commit 𝓞 p b rest (Instruction.jump a c))
         (perform p (s .self) (s .program) (s .heap) rest (Instruction.jump a c))
     unfolding check line commit perform
     jump-out a c f g = jump-to-out a c f g
 
     ifeq-out : (a c d : Base Path) → BaseFits p c → BaseFits p d →
-        Performs s (check p (b .self) (b .program) (H .heap) (Instruction.ifeq a c d)) (line 𝓞 p b (Instruction.ifeq a c d)) (commit 𝓞 p b rest (Instruction.ifeq a c d))
+        Performs H 0 0 s (check p (b .self) (b .program) (H .heap) (Instruction.ifeq a c d)) (line 𝓞 p b (Instruction.ifeq a c d)) (commit 𝓞 p b rest (Instruction.ifeq a c d))
         (perform p (s .self) (s .program) (s .heap) rest (Instruction.ifeq a c d))
     unfolding check line commit perform ifeq-end value-given M._>>=_
     ifeq-out a c d f g = step (base-rel (A .heaps) (A .self) (A .program) a)
@@ -189,19 +195,19 @@ module _ {S : Type 0} (𝓞 : Store S) (p : Program) (𝓛 : Laws 𝓞 p) (fits 
         j = jump-result (p .codes) (b .self) (b .program) (H .heap .frames) c d
 
         choose : (t u : Bool) → t ≡ u →
-            Performs s (if t then 0 else end-of j) [] (if t then goes-on 𝓞 b rest (b .self) (b .program) (b .store) else commit-jump 𝓞 b j)
+            Performs H 0 0 s (if t then 0 else end-of j) [] (if t then goes-on 𝓞 b rest (b .self) (b .program) (b .store) else commit-jump 𝓞 b j)
             (if u then gives (record { remaining = rest; self = s .self; program = s .program; heap = s .heap; line = [] }) else jump-to p (s .self) (s .program) (s .heap) c d)
-        choose t u e = subst (λ (u : Bool). Performs s (if t then 0 else end-of j) [] (if t then goes-on 𝓞 b rest (b .self) (b .program) (b .store) else commit-jump 𝓞 b j)
+        choose t u e = subst (λ (u : Bool). Performs H 0 0 s (if t then 0 else end-of j) [] (if t then goes-on 𝓞 b rest (b .self) (b .program) (b .store) else commit-jump 𝓞 b j)
             (if u then gives (record { remaining = rest; self = s .self; program = s .program; heap = s .heap; line = [] }) else jump-to p (s .self) (s .program) (s .heap) c d)) e (same t)
           where
             same : (t : Bool) →
-                Performs s (if t then 0 else end-of j) [] (if t then goes-on 𝓞 b rest (b .self) (b .program) (b .store) else commit-jump 𝓞 b j)
+                Performs H 0 0 s (if t then 0 else end-of j) [] (if t then goes-on 𝓞 b rest (b .self) (b .program) (b .store) else commit-jump 𝓞 b j)
                 (if t then gives (record { remaining = rest; self = s .self; program = s .program; heap = s .heap; line = [] }) else jump-to p (s .self) (s .program) (s .heap) c d)
-            same true = inr (record { passes = refl; effect = _; result-is = refl; same-line = refl; related = moved rest rest-fits (A .self) (ok .self) [] })
+            same true = inr (record { passes = refl; effect = _; result-is = refl; same-line = refl; related = moved rest rest-fits (A .self) (ok .self) []; takes = nothing-taken })
             same false = jump-to-out c d f g
 
         step : {x y : Result Value} → BaseRel (A .relation) x y →
-            Performs s (ifeq-end x (end-of j)) [] (if truth (value-given x) then goes-on 𝓞 b rest (b .self) (b .program) (b .store) else commit-jump 𝓞 b j)
+            Performs H 0 0 s (ifeq-end x (end-of j)) [] (if truth (value-given x) then goes-on 𝓞 b rest (b .self) (b .program) (b .store) else commit-jump 𝓞 b j)
             (M._>>=_ y (λ v. if truth v then gives (record { remaining = rest; self = s .self; program = s .program; heap = s .heap; line = [] }) else jump-to p (s .self) (s .program) (s .heap) c d))
         step both-end = inl (30, refl, refl)
         step (both-give {v = v} {w = w} r) = choose (truth v) (truth w) (truth-rel r)
@@ -266,6 +272,9 @@ module _ {S : Type 0} (𝓞 : Store S) (p : Program) (𝓛 : Laws 𝓞 p) (fits 
         same-keeps : Keeps (view (r .store)) (view (r .store))
         same-keeps = extends-keeps (same-view (view (r .store)))
 
+        value-taken : Takes H (view (r .store)) (frame-literals e) (join-signs e)
+        value-taken = record { frames = D .taken .frames; texts = D .taken .texts; stays = λ m x q. (x, D .ext .old-frame m x q) }
+
         -- with an empty path: self, or program, becomes the value
         self-becomes : Related 𝓞 p 𝓛 F T (goes-on 𝓞 b rest (r .value) (b .program) (r .store))
             (after-step s (record { remaining = rest; self = D .value; program = s .program; heap = D .heap; line = [] }))
@@ -283,33 +292,47 @@ module _ {S : Type 0} (𝓞 : Store S) (p : Program) (𝓛 : Laws 𝓞 p) (fits 
         check-side = simulates-extended (A .heaps) (same-view H) (D .ext′)
 
         -- the slot is set or added on both sides
-        slot-written : (m n x : ℕ) → A .relation .frame m n → x < length (p .names) → (l : FramesLinked (A .relation) H (all-used (D .heap)) m n) → has-place (l .left) x ≡ true →
-            Related 𝓞 p 𝓛 F T (goes-on 𝓞 b rest (b .self) (b .program) (assign (r .store) m x (r .value)))
-            (after-step s (record {
-              remaining = rest;
-              self = s .self;
-              program = s .program;
-              heap = with-frames (set (D .heap .frames) n (with-slots (l .right) (set-slot (l .right .slots) x (D .value)))) (D .heap);
-              line = [];
-            }))
-        unfolding has-place
-        slot-written m n x q named l place =
-            after (assign (r .store) m x (r .value)) _ [] (done .0) (written-keeps w) (written-frames (view (r .store)) (view (assign (r .store) m x (r .value))) m _ (l .left) at-m w)
-            (written-texts (view (r .store)) (view (assign (r .store) m x (r .value))) m _ w)
-            (write-both (D .heaps) (D .up .up-frame m n q) (set-rel x (D .alike) (slots-up (D .up) (l .alike))) w
-            (set-written (D .heap) n _ (l .right) (l .at-right)))
-            (value-up (D .up) (A .self)) (valid-kept (written-keeps w) (old-valid (ok .self)))
-            (value-up (D .up) (A .program)) (valid-kept (written-keeps w) (old-valid (ok .program)))
-          where
-            at-m : frame-at (view (r .store)) m ≡ some (l .left)
-            at-m = D .ext .old-frame m (l .left) (l .at-left)
+        module _ (m n x : ℕ) (q : A .relation .frame m n) (named : x < length (p .names)) (l : FramesLinked (A .relation) H (all-used (D .heap)) m n) (place : has-place (l .left) x ≡ true) where
+          abbrev slotted : S
+          slotted = assign (r .store) m x (r .value)
 
-            done : 𝓛 .WellFormed (assign (r .store) m x (r .value))
-                × FrameWritten (view (r .store)) (view (assign (r .store) m x (r .value))) m (with-slots (l .left) (set-slot (l .left .slots) x (r .value)))
-            done = 𝓛 .assign-is (r .store) (D .well-formed) m x (r .value) (l .left) at-m named place (D .valid)
+          at-m : frame-at (view (r .store)) m ≡ some (l .left)
+          at-m = D .ext .old-frame m (l .left) (l .at-left)
 
-            w : FrameWritten (view (r .store)) (view (assign (r .store) m x (r .value))) m (with-slots (l .left) (set-slot (l .left .slots) x (r .value)))
-            w = done .1
+          done : 𝓛 .WellFormed slotted × FrameWritten (view (r .store)) (view slotted) m (with-slots (l .left) (set-slot (l .left .slots) x (r .value)))
+          unfolding has-place
+          done = 𝓛 .assign-is (r .store) (D .well-formed) m x (r .value) (l .left) at-m named place (D .valid)
+
+          w : FrameWritten (view (r .store)) (view slotted) m (with-slots (l .left) (set-slot (l .left .slots) x (r .value)))
+          w = done .1
+
+          same-frames : frames-used (view slotted) ≡ frames-used (view (r .store))
+          same-frames = written-frames (view (r .store)) (view slotted) m _ (l .left) at-m w
+
+          same-texts : texts-used (view slotted) ≡ texts-used (view (r .store))
+          same-texts = written-texts (view (r .store)) (view slotted) m _ w
+
+          slot-written : Related 𝓞 p 𝓛 F T (goes-on 𝓞 b rest (b .self) (b .program) slotted)
+              (after-step s (record {
+                remaining = rest;
+                self = s .self;
+                program = s .program;
+                heap = with-frames (set (D .heap .frames) n (with-slots (l .right) (set-slot (l .right .slots) x (D .value)))) (D .heap);
+                line = [];
+              }))
+          slot-written =
+              after slotted _ [] (done .0) (written-keeps w) same-frames same-texts
+              (write-both (D .heaps) (D .up .up-frame m n q) (set-rel x (D .alike) (slots-up (D .up) (l .alike))) w
+              (set-written (D .heap) n _ (l .right) (l .at-right)))
+              (value-up (D .up) (A .self)) (valid-kept (written-keeps w) (old-valid (ok .self)))
+              (value-up (D .up) (A .program)) (valid-kept (written-keeps w) (old-valid (ok .program)))
+
+          slot-taken : Takes H (view slotted) (frame-literals e) (join-signs e)
+          slot-taken = record {
+            frames = omega (arith, same-frames, D .taken .frames);
+            texts = omega (arith, same-texts, D .taken .texts);
+            stays = λ a g z. written-keeps w .keeps-frame a (g, D .ext .old-frame a g z);
+          }
 
         -- the last name of the walk is one of the program's
         data Named : Result Target → Type 0 where
@@ -330,7 +353,7 @@ module _ {S : Type 0} (𝓞 : Store S) (p : Program) (𝓛 : Laws 𝓞 p) (fits 
 
         Puts : Result Target → Result Target → Type 1
         Puts x y =
-            Performs s (first-end checked (target-end (H .heap .frames) x)) [] (goes-on 𝓞 b rest (b .self) (b .program) (assign-at 𝓞 x (r .value) (r .store)))
+            Performs H (frame-literals e) (join-signs e) s (first-end checked (target-end (H .heap .frames) x)) [] (goes-on 𝓞 b rest (b .self) (b .program) (assign-at 𝓞 x (r .value) (r .store)))
             (M._>>=_ (put-to (D .heap .frames) (D .value) y) (λ fs. gives (record { remaining = rest; self = s .self; program = s .program; heap = with-frames fs (D .heap); line = [] })))
 
         puts : {x y : Result Target} → TargetRel (A .relation) x y → Named x → Puts x y
@@ -344,16 +367,16 @@ module _ {S : Type 0} (𝓞 : Store S) (p : Program) (𝓛 : Laws 𝓞 p) (fits 
             l = check-side .frame-link m n q
 
             step : (t u : Bool) → has-place (l .left) x ≡ t → t ≡ u →
-                Performs s (if t then 0 else 35) [] (goes-on 𝓞 b rest (b .self) (b .program) (assign (r .store) m x (r .value)))
+                Performs H (frame-literals e) (join-signs e) s (if t then 0 else 35) [] (goes-on 𝓞 b rest (b .self) (b .program) (assign (r .store) m x (r .value)))
                 (M._>>=_ (M._>>=_ (if u then gives (with-slots (l .right) (set-slot (l .right .slots) x (D .value))) else ends 35) (λ g. gives (set (D .heap .frames) n g)))
                 (λ fs. gives (record { remaining = rest; self = s .self; program = s .program; heap = with-frames fs (D .heap); line = [] })))
-            step true true i z = inr (record { passes = refl; effect = _; result-is = refl; same-line = refl; related = slot-written m n x q small l i })
+            step true true i z = inr (record { passes = refl; effect = _; result-is = refl; same-line = refl; related = slot-written m n x q small l i; takes = slot-taken m n x q small l i })
             step false false i z = inl (34, refl, refl)
             step true false i z = absurd (true≢false z)
             step false true i z = absurd (true≢false (sym z))
 
         put-out : {u u′ : Value} → ValueRel (A .relation) u u′ → (n : ℕ) (ns : List ℕ) → NamesFit p (n ∷ ns) →
-            Performs s (first-end checked (target-end (H .heap .frames) (target (H .heap .frames) u n ns))) []
+            Performs H (frame-literals e) (join-signs e) s (first-end checked (target-end (H .heap .frames) (target (H .heap .frames) u n ns))) []
             (goes-on 𝓞 b rest (b .self) (b .program) (assign-at 𝓞 (target (view (r .store) .heap .frames) u n ns) (r .value) (r .store)))
             (M._>>=_ (put (D .heap .frames) u′ n ns (D .value)) (λ fs. gives (record { remaining = rest; self = s .self; program = s .program; heap = with-frames fs (D .heap); line = [] })))
         unfolding Puts
@@ -362,17 +385,17 @@ module _ {S : Type 0} (𝓞 : Store S) (p : Program) (𝓛 : Laws 𝓞 p) (fits 
             (puts (target-rel both ns n q) (target-named (view (r .store) .heap .frames) ns n u f))
 
       assigned : Value? → (path : Path) → NamesFit p (names-of path) →
-          Performs s (first-end checked (check-put (b .self) (b .program) (H .heap .frames) path)) [] (commit-assign 𝓞 b rest path r)
+          Performs H (frame-literals e) (join-signs e) s (first-end checked (check-put (b .self) (b .program) (H .heap .frames) path)) [] (commit-assign 𝓞 b rest path r)
           (M._>>=_ given (λ q. assign-to (s .self) (s .program) rest path (q .value) (q .heap)))
       unfolding Value? check-put commit-assign assign-to first-end M._>>=_ names-of
       assigned (inl z) path f = inl (z .0, rw (z .1), rw (z .2))
-      assigned (inr D) (from-self []) f = inr (record { passes = rw (D .passes); effect = record { remaining = rest; self = D .value; program = s .program; heap = D .heap; line = [] }; result-is = rw (D .result-is); same-line = refl; related = self-becomes D })
+      assigned (inr D) (from-self []) f = inr (record { passes = rw (D .passes); effect = record { remaining = rest; self = D .value; program = s .program; heap = D .heap; line = [] }; result-is = rw (D .result-is); same-line = refl; related = self-becomes D; takes = value-taken D })
       assigned (inr D) (from-self (n ∷ ns)) f = rw (D .result-is) (put-out D (A .self) n ns f)
-      assigned (inr D) (from-program []) f = inr (record { passes = rw (D .passes); effect = record { remaining = rest; self = s .self; program = D .value; heap = D .heap; line = [] }; result-is = rw (D .result-is); same-line = refl; related = program-becomes D })
+      assigned (inr D) (from-program []) f = inr (record { passes = rw (D .passes); effect = record { remaining = rest; self = s .self; program = D .value; heap = D .heap; line = [] }; result-is = rw (D .result-is); same-line = refl; related = program-becomes D; takes = value-taken D })
       assigned (inr D) (from-program (n ∷ ns)) f = rw (D .result-is) (put-out D (A .program) n ns f)
 
       assign-out : (path : Path) → NamesFit p (names-of path) →
-          Performs s (check p (b .self) (b .program) (H .heap) (Instruction.assign path e)) (line 𝓞 p b (Instruction.assign path e)) (commit 𝓞 p b rest (Instruction.assign path e))
+          Performs H (frame-literals e) (join-signs e) s (check p (b .self) (b .program) (H .heap) (Instruction.assign path e)) (line 𝓞 p b (Instruction.assign path e)) (commit 𝓞 p b rest (Instruction.assign path e))
           (perform p (s .self) (s .program) (s .heap) rest (Instruction.assign path e))
       unfolding check line commit perform checked r given
       assign-out path f = assigned value-out path f
@@ -380,8 +403,8 @@ module _ {S : Type 0} (𝓞 : Store S) (p : Program) (𝓛 : Laws 𝓞 p) (fits 
     -- ---- The rule of an instruction
 
     perform-out : (i : Instruction Path) → InstructionFits p i → frames-used H + frame-literals (right-side i) ≤ F → texts-used H + join-signs (right-side i) ≤ T →
-        Performs s (check p (b .self) (b .program) (H .heap) i) (line 𝓞 p b i) (commit 𝓞 p b rest i) (perform p (s .self) (s .program) (s .heap) rest i)
-    unfolding right-side
+        Performs H (frame-literals (right-side i)) (join-signs (right-side i)) s (check p (b .self) (b .program) (H .heap) i) (line 𝓞 p b i) (commit 𝓞 p b rest i) (perform p (s .self) (s .program) (s .heap) rest i)
+    unfolding right-side frame-literals join-signs
     perform-out (Instruction.assign path e) f c d = assign-out e (f .1) c d path (f .0)
     perform-out (Instruction.show a) f c d = show-out a
     perform-out (Instruction.jump a j) f c d = jump-out a j (f .0) (f .1)
@@ -392,13 +415,13 @@ module _ {S : Type 0} (𝓞 : Store S) (p : Program) (𝓛 : Laws 𝓞 p) (fits 
   -- after reserve: the state stays related; and it ends in both, and alike, or commits
   pub record Steps (b : Bounded S) (s : State) (i : Instruction Path) (rest : Code Path) : Type 1 where
     pub still : Related 𝓞 p 𝓛 F T (ready 𝓞 F T b i) s
-    pub outcome : Performs s (step-end 𝓞 p F T b i) (line 𝓞 p (ready 𝓞 F T b i) i) (commit 𝓞 p (ready 𝓞 F T b i) rest i) (step p F T s i rest)
+    pub outcome : Performs (view (reserved 𝓞 F T b i)) (frame-literals (right-side i)) (join-signs (right-side i)) s (step-end 𝓞 p F T b i) (line 𝓞 p (ready 𝓞 F T b i) i) (commit 𝓞 p (ready 𝓞 F T b i) rest i) (step p F T s i rest)
 
   pub step-out : {b : Bounded S} {s : State} → Related 𝓞 p 𝓛 F T b s → (i : Instruction Path) (rest : Code Path) → InstructionFits p i → CodeFits p rest → Steps b s i rest
   unfolding step-end step reserve ready
   step-out {b} {s} A i rest f g = record {
     still = R .related;
-    outcome = subst (λ (n : ℕ). Performs s (ended n) (line 𝓞 p b₁ i) (commit 𝓞 p b₁ rest i) (step p F T s i rest)) (sym (R .same))
+    outcome = subst (λ (n : ℕ). Performs (view (reserved 𝓞 F T b i)) (frame-literals (right-side i)) (join-signs (right-side i)) s (ended n) (line 𝓞 p b₁ i) (commit 𝓞 p b₁ rest i) (step p F T s i rest)) (sym (R .same))
         (go (M.reserve F T (s .heap .frames) (s .self) (s .program) i) refl);
   }
     where
@@ -412,7 +435,7 @@ module _ {S : Type 0} (𝓞 : Store S) (p : Program) (𝓛 : Laws 𝓞 p) (fits 
       ended n = elim n [ zero ↦ check p (b .self) (b .program) (view (reserved 𝓞 F T b i) .heap) i | suc e ↦ suc e ]
 
       go : (n : ℕ) → M.reserve F T (s .heap .frames) (s .self) (s .program) i ≡ n →
-          Performs s (ended n)
+          Performs (view (reserved 𝓞 F T b i)) (frame-literals (right-side i)) (join-signs (right-side i)) s (ended n)
           (line 𝓞 p b₁ i) (commit 𝓞 p b₁ rest i)
           (elim n [ zero ↦ perform p (s .self) (s .program) (s .heap) rest i | suc e ↦ ends (suc e) ])
       go zero e = perform-out (R .related) rest g i f (R .frame-room e) (R .text-room e)

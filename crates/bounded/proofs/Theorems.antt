@@ -15,13 +15,13 @@ use Rattle.framed.specs.Calls.{Unbounded, at-start, Call, frame-total}
 use Rattle.framed.specs.Calls as C
 use Rattle.framed.specs.Alike.{Alike}
 use Rattle.framed.specs.Demands.{steps-in, bytes-in}
-use Rattle.bounded.specs.Views.{View, all-used, frames-used, texts-used}
+use Rattle.bounded.specs.Views.{View, all-used, frames-used, texts-used, Takes}
 use Rattle.bounded.specs.Fits.{Valid, CodeFits}
 use Rattle.bounded.specs.Check.{end-of}
 use Rattle.bounded.specs.Store.{Store, Laws}
 use Rattle.bounded.specs.Bounded.{Bounded, over-store, state-of, reserve, ready, collected, run, calls}
 use Rattle.bounded.specs.Relation.{Simulates, WellFormed, Related}
-use Rattle.bounded.specs.Theorems.{Admitted, StepSimulation, SameRun, Simulation, BoundedCalls, AlikeAfter, AlikeAfterCalls}
+use Rattle.bounded.specs.Theorems.{Admitted, StepTakes, StepSimulation, SameRun, Simulation, BoundedCalls, AlikeAfter, AlikeAfterCalls}
 use Rattle.bounded.proofs.UnboundedRuns.{unbounded-runs, unbounded-calls}
 use Rattle.bounded.proofs.Collect.{same-frame-count, reserves, counts-frames, counts-texts, collected-well-formed, frame-in-use-reached, text-in-use-reached}
 use Rattle.bounded.proofs.Step.{Performs, Steps, step-out}
@@ -40,15 +40,15 @@ module _ {S : Type 0} (𝓞 : Store S) (p : Program) (𝓛 : Laws 𝓞 p) (F T :
       let f : CodeFits p (i then rest) = subst (CodeFits p) c (A .well-formed .remaining) in
       step-out 𝓞 p 𝓛 (admitted .fits) F T (admitted .F-within) (admitted .T-within) A i rest (f .0) (f .1)
 
-  abbrev Outcome : State → ℕ → List ℕ → Bounded S → Result Effect → Type 1
+  abbrev Outcome : View → (f n : ℕ) → State → ℕ → List ℕ → Bounded S → Result Effect → Type 1
   Outcome = Performs 𝓞 p 𝓛 (admitted .fits) F T (admitted .F-within) (admitted .T-within)
 
-  end-same : {s : State} {c : ℕ} {l : List ℕ} {b′ : Bounded S} {o : Result Effect} → Outcome s c l b′ o → c ≡ end-of o
+  end-same : {K : View} {f n : ℕ} {s : State} {c : ℕ} {l : List ℕ} {b′ : Bounded S} {o : Result Effect} → Outcome K f n s c l b′ o → c ≡ end-of o
   unfolding end-of
   end-same (inl z) = z .1 ∙ sym (ap end-of (z .2))
   end-same (inr D) = D .passes ∙ sym (ap end-of (D .result-is))
 
-  commit-same : {s : State} {c : ℕ} {l : List ℕ} {b′ : Bounded S} {o : Result Effect} → Outcome s c l b′ o → (x : Effect) → o ≡ gives x →
+  commit-same : {K : View} {f n : ℕ} {s : State} {c : ℕ} {l : List ℕ} {b′ : Bounded S} {o : Result Effect} → Outcome K f n s c l b′ o → (x : Effect) → o ≡ gives x →
       (l ≡ x .line) × Related 𝓞 p 𝓛 F T b′ (after-step s x)
   commit-same (inl z) x e = absurd (let g = sym (z .2) ∙ e in let n : _≡_ {A = ℕ} 0 1 = cc in omega arith)
   commit-same {s} {b′ = b′} (inr D) x e =
@@ -57,6 +57,14 @@ module _ {S : Type 0} (𝓞 : Store S) (p : Program) (𝓛 : Laws 𝓞 p) (F T :
     where
       given : {y z : Effect} → gives y ≡ gives z → y ≡ z
       given e = cc
+
+  taken : {K : View} {f n : ℕ} {s : State} {c : ℕ} {l : List ℕ} {b′ : Bounded S} {o : Result Effect} → Outcome K f n s c l b′ o → c ≡ 0 → Takes K (𝓞 .view (b′ .store)) f n
+  taken (inl z) e = absurd (omega (arith, z .1))
+  taken (inr D) e = D .takes
+
+  pub step-takes : StepTakes 𝓞 p 𝓛 F T
+  unfolding ready
+  step-takes b ok i rest c e = taken (steps b (state-of 𝓞 b) (itself b ok) i rest c .outcome) e
 
   pub step-simulation : StepSimulation 𝓞 p 𝓛 F T
   unfolding reserve ready

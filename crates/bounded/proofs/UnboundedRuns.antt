@@ -32,11 +32,11 @@ ends-inj e = cc
 -- ---- Which numbers end a step
 
 -- whatever ends it is one of 31 to 35
-abbrev Within : {A : Type 0} → Result A → Type 0
+abbrev pub Within : {A : Type 0} → Result A → Type 0
 Within (gives a) = Unit
 Within (ends e) = (31 ≤ e) × (e ≤ 35)
 
-within-bind : {A B : Type 0} (m : Result A) (f : A → Result B) → Within m → ((a : A) → Within (f a)) → Within (M._>>=_ m f)
+pub within-bind : {A B : Type 0} (m : Result A) (f : A → Result B) → Within m → ((a : A) → Within (f a)) → Within (M._>>=_ m f)
 unfolding M._>>=_
 within-bind (gives a) f w k = k a
 within-bind (ends e) f w k = w
@@ -50,7 +50,7 @@ within-if : {A : Type 0} (t : Bool) (a b : Result A) → Within a → Within b �
 within-if true a b v w = v
 within-if false a b v w = w
 
-base-within : (Σ Π : Value) (frames : List Frame) (b : Base Path) → Within (base-value Σ Π frames b)
+pub base-within : (Σ Π : Value) (frames : List Frame) (b : Base Path) → Within (base-value Σ Π frames b)
 unfolding base-value
 base-within Σ Π frames (Base.integer z) = tt
 base-within Σ Π frames (Base.string k) = tt
@@ -79,7 +79,7 @@ quotient-within y (pos zero) = (omega arith, omega arith)
 quotient-within y (pos (suc n)) = tt
 quotient-within y (negsuc n) = tt
 
-operate-within : (literals : List (List ℕ)) (o : Operator) (v w : Value) (h : Heap) → Within (operate literals o v w h)
+pub operate-within : (literals : List (List ℕ)) (o : Operator) (v w : Value) (h : Heap) → Within (operate literals o v w h)
 unfolding operate new-text
 operate-within literals Operator.plus v w h = two-integers v w _ (λ y z. result-within _ h)
 operate-within literals Operator.minus v w h = two-integers v w _ (λ y z. result-within _ h)

@@ -13,14 +13,14 @@ use Rattle.framed.specs.Tree.{Instruction, Code, _then_}
 use Rattle.framed.specs.Paths.{Path}
 use Rattle.framed.specs.Program.{Program}
 use Rattle.framed.specs.Values.{Frame}
-use Rattle.framed.specs.Machine.{State, Effect, gives, ends, step, after-step, right-side, frame-literals, start}
+use Rattle.framed.specs.Machine.{State, Effect, gives, ends, step, after-step, right-side, frame-literals, join-signs, start}
 use Rattle.framed.specs.Machine as M
 use Rattle.framed.specs.Answers.{Stopped}
 use Rattle.framed.specs.Calls.{Unbounded, Position, at-end, before, position-in, Call, at-start, frame-total, text-total}
 use Rattle.framed.specs.Calls as C
 use Rattle.framed.specs.Alike.{Alike, InReach}
 use Rattle.framed.specs.Demands.{NextEnds, steps-in, bytes-in}
-use Rattle.bounded.specs.Views.{frame-at, text-at, entries}
+use Rattle.bounded.specs.Views.{frame-at, text-at, entries, Takes}
 use Rattle.bounded.specs.Fits.{ProgramFits}
 use Rattle.bounded.specs.Store.{Store, Laws}
 use Rattle.bounded.specs.Check.{end-of}
@@ -69,6 +69,11 @@ module _ {S : Type 0} (𝓞 : Store S) (p : Program) (𝓛 : Laws 𝓞 p) (F T :
     pub goes-on : (b : Bounded S) (s : State) → Related 𝓞 p 𝓛 F T b s → (i : Instruction Path) (rest : Code Path) → b .remaining ≡ (i then rest) →
         (x : Effect) → step p F T s i rest ≡ gives x →
         (line 𝓞 p (ready 𝓞 F T b i) i ≡ x .line) × Related 𝓞 p 𝓛 F T (commit 𝓞 p (ready 𝓞 F T b i) rest i) (after-step s x)
+
+  -- a step that goes on takes at most its f and t
+  abbrev pub StepTakes : Type 0
+  StepTakes = (b : Bounded S) → WellFormed 𝓞 p 𝓛 F T b → (i : Instruction Path) (rest : Code Path) → b .remaining ≡ (i then rest) → step-end 𝓞 p F T b i ≡ 0 →
+      Takes (𝓞 .view (ready 𝓞 F T b i .store)) (𝓞 .view (commit 𝓞 p (ready 𝓞 F T b i) rest i .store)) (frame-literals (right-side i)) (join-signs (right-side i))
 
   -- a run of both machines: the same stop, steps and bytes, and related states after it
   pub record SameRun (x : B.Ran 𝓞) (y : C.Ran) : Type 1 where

@@ -5,7 +5,7 @@ use mathlib.Core.Logic.{_≢_}
 use mathlib.Core.Bool.{Bool, true, false}
 use mathlib.Core.List.{List, [], _∷_}
 use mathlib.Core.Option.{Option, none, some}
-use Prim.Native.Nat.{ℕ, zero, suc}
+use Prim.Native.Nat.{ℕ, zero, suc, _+_, _≤_}
 use lib.ListN.{length, getElem?}
 use Rattle.framed.specs.Values.{Frame, Heap}
 
@@ -65,3 +65,9 @@ pub record TextWritten (H K : View) (k : ℕ) (bs : List ℕ) : Type 0 where
   pub here : text-at K k ≡ some bs
   pub there : (j : ℕ) → j ≢ k → text-at K j ≡ text-at H j
   pub frames : (n : ℕ) → frame-at K n ≡ frame-at H n
+
+-- at most f frames and n made texts more are in use, and what frame was in use is still
+pub record Takes (H K : View) (f n : ℕ) : Type 0 where
+  pub frames : frames-used K ≤ frames-used H + f
+  pub texts : texts-used K ≤ texts-used H + n
+  pub stays : (m : ℕ) (x : Frame) → frame-at H m ≡ some x → (y : Frame) × (frame-at K m ≡ some y)

@@ -14,6 +14,7 @@ use Rattle.framed.specs.Tokens.{Token, tokens, highest-nesting}
 use Rattle.framed.specs.Symbols.{symbols, name-table}
 use Rattle.framed.specs.Tree.{Written, Slots}
 use Rattle.framed.specs.Parse.{parse}
+use Rattle.framed.proofs.RefusalLowest.{lowest-bound}
 use Rattle.framed.specs.Meaning.{Lengths, right-lengths, pieces, misplaced, bad-frame, above-limit, too-far-up, main-start, is-none, frame-outside, lowest, arguments-refusal, meaning-refusal, tree-refusal, source-refusal, refusal}
 use Rattle.framed.specs.Answers.{load-number}
 use Rattle.framed.specs.declared.LoadAnswer.{LoadAnswer}
@@ -215,16 +216,10 @@ answer-last n a b c d e f g h i j k l = record { is = λ m. same n (up n 11 (up 
     same : (n : ℕ) → 12 ≤ n → n ≤ 12 → 12 ≡ n
     same n l m = omega arith
 
-lowest-small : (n : ℕ) (bs : List Bool) → lowest (suc n) bs ≤ n + length bs
-unfolding lowest
-lowest-small n [] = omega arith
-lowest-small n (true ∷ bs) = omega arith
-lowest-small n (false ∷ bs) = omega (arith, lowest-small (suc n) bs)
-
 tree-small : (names : List (List ℕ)) (o : Option (Slots Written)) (F : ℕ) → tree-refusal names o F ≤ 12
 unfolding tree-refusal meaning-refusal
 tree-small names none F = omega arith
-tree-small names (some ss) F = lowest-small 6 _
+tree-small names (some ss) F = lowest-bound 6 _
 
 limits-small : (n F T : ℕ) → limits-refusal n F T ≤ 12
 unfolding limits-refusal

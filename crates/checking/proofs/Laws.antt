@@ -19,39 +19,30 @@ use Rattle.bounded.specs.Check.{end-of, first-end, operation-result, check-expr
 use Rattle.tables.specs.declared.ExpressionEntry.{ExpressionEntry}
 use Rattle.tables.specs.declared.InstructionEntry.{InstructionEntry}
 use Rattle.tables.specs.Entries.{expression-of, expression-at, instruction-at}
-use Rattle.tables.specs.Fields.{literals, literal-length, literal-byte, link, slot-after, expression-kind, expression-a, expression-b}
+use Rattle.tables.specs.Fields.{link, slot-after, expression-kind, expression-a, expression-b}
 use Rattle.tables.proofs.ExpressionEntry.{the-type}
 use Rattle.program_entries.specs.Form as form
 use Rattle.heap.specs.Words.{self-held, program-held}
 use Rattle.heap.specs.Held.{heap-held, frames-held, texts-held}
 use Rattle.paths.specs.declared.Fetched.{Fetched}
 use Rattle.paths.specs.Paths.{fetched}
-use Rattle.texts.specs.Literals.{literal-held, literals-held}
+use Rattle.texts.specs.Literals.{literals-held}
 use Rattle.texts.specs.Texts.{Readable}
 use Rattle.trees.specs.Trees.{expression-tree, base-tree, path-list}
 use Rattle.trees.specs.Trees as trees
-use Rattle.trees.specs.Held.{base-held, expression-held, instruction-held, held, literal-bytes}
+use Rattle.trees.specs.Held.{base-held, expression-held, instruction-held, held}
 use Rattle.trees.specs.Held as trees-held
 use Rattle.trees.proofs.Held.{one-level-held, assign-self-held, assign-program-held, show-held, jump-held, ifeq-held}
 use Rattle.operators.specs.Operators.{operator-of, arithmetic-of}
 use Rattle.operands.specs.Operands.{operand-value}
-use Rattle.operands.proofs.Lists.{from-listed}
+use Rattle.operands.proofs.Literals.{same-literals}
 use Rattle.operand_checks.specs.OperandChecks.{put-end, jump-end, ifeq-ends}
 use Rattle.operand_checks.proofs.Laws.{put-self, put-program, jump-any}
 use Rattle.places.specs.Places.{expression-measure, slots-measure}
 use Rattle.places.proofs.Laws as places
 use Rattle.checking.specs.Checking.{ChecksExpression, ChecksSlots, ChecksInstruction, operation-end, expression-end, slots-end, assign-end, base-in, single-end}
 
--- ---- The program's literals; the operator of a kind
-
-same-literal : (p l : List ℕ) (k : ℕ) → literal-bytes p l k ≡ literal-held p l k
-unfolding literal-bytes literal-held
-same-literal p l k = from-listed (literal-byte l k) (literal-byte l k) 0 (λ i. let e : 0 + i ≡ i = omega arith in ap (literal-byte l k) e) (literal-length p k)
-
-pub same-literals : (p l : List ℕ) → trees-held.program-held p l .literals ≡ literals-held p l
-unfolding trees-held.program-held literals-held
-same-literals p l =
-    from-listed (literal-bytes p l) (literal-held p l) 0 (λ k. let e : 0 + k ≡ k = omega arith in ap (literal-bytes p l) e ∙ same-literal p l k) (literals p)
+-- ---- The operator of a kind
 
 -- kinds from 7 on
 from-join : (o : ℕ) → 12 ≤ o → operator-of o ≡ trees.operator-of o
@@ -199,7 +190,7 @@ module _ (p l h t : List ℕ) (x : ℕ) (a : ChecksExpression p l h t x) where
   unfolding expression-end check-expression operation-end
   end-operation o b c le ee = rw (ee, same-operator o le)
 
-  single-is : (e : ExpressionEntry) → e ≡ expression-at p x → NotFrame e → single-end p l h t x e ≡ expression-end p l h t x
+  pub single-is : (e : ExpressionEntry) → e ≡ expression-at p x → NotFrame e → single-end p l h t x e ≡ expression-end p l h t x
   unfolding single-end base-tree expression-tree
   single-is (ExpressionEntry.Integer w) at k = end-base _ (held-base (ExpressionEntry.Integer w) at) (held-expression (ExpressionEntry.Integer w) at)
   single-is (ExpressionEntry.Literal n) at k = end-base _ (held-base (ExpressionEntry.Literal n) at) (held-expression (ExpressionEntry.Literal n) at)

@@ -6,6 +6,7 @@ use tables::InstructionEntry;
 ghost use mathlib.Core.Path.{_≡_};
 ghost use Rattle.framed.specs.Paths.{from-self, from-program};
 ghost use Rattle.trees.specs.Trees.{path-list};
+ghost use Rattle.allocation.specs.Known.{FullBelow};
 ghost use Rattle.evaluation.specs.Evaluation.{CanEvaluate};
 ghost use Rattle.commit.specs.Commit.{put-along, first-place, Assigns, CanJump, Jumps, CanCommit, Commits};
 ghost use Rattle.heap.specs.Words.{set-position};
@@ -22,12 +23,22 @@ pub fn put(p: &[u32], h: &mut [u32], root: Value, j: u32, n: u32, v: Value)
 }
 
 // The value of the expression, then Put from the old self; an empty path sets self.
-pub fn assign_self(p: &[u32], l: &[u8], h: &mut [u32], t: &mut [u8], j: u32, n: u32, x: u32)
+pub fn assign_self(
+    p: &[u32],
+    l: &[u8],
+    h: &mut [u32],
+    t: &mut [u8],
+    j: u32,
+    n: u32,
+    x: u32,
+    low: u32,
+)
     requires { ⌜ CanEvaluate (now p) (now l) (now h) (now t) x ⌝ }
+    requires { ⌜ FullBelow (now h) low ⌝ }
     ensures { λ _. ⌜ Assigns (now (p .entry)) (now (l .entry)) (now (h .entry)) (now (t .entry)) (from-self (path-list (now (p .entry)) n j)) x (now (h .exit)) (now (t .exit)) ⌝ }
 {
     let root = heap::self_value(h);
-    let v = evaluation::evaluate(p, l, h, t, x);
+    let v = evaluation::evaluate(p, l, h, t, x, low);
     if n == 0 {
         heap::set_self(h, v);
         return;
@@ -36,12 +47,22 @@ pub fn assign_self(p: &[u32], l: &[u8], h: &mut [u32], t: &mut [u8], j: u32, n: 
 }
 
 // The same from the old program; an empty path sets program.
-pub fn assign_program(p: &[u32], l: &[u8], h: &mut [u32], t: &mut [u8], j: u32, n: u32, x: u32)
+pub fn assign_program(
+    p: &[u32],
+    l: &[u8],
+    h: &mut [u32],
+    t: &mut [u8],
+    j: u32,
+    n: u32,
+    x: u32,
+    low: u32,
+)
     requires { ⌜ CanEvaluate (now p) (now l) (now h) (now t) x ⌝ }
+    requires { ⌜ FullBelow (now h) low ⌝ }
     ensures { λ _. ⌜ Assigns (now (p .entry)) (now (l .entry)) (now (h .entry)) (now (t .entry)) (from-program (path-list (now (p .entry)) n j)) x (now (h .exit)) (now (t .exit)) ⌝ }
 {
     let from = heap::program_value(h);
-    let v = evaluation::evaluate(p, l, h, t, x);
+    let v = evaluation::evaluate(p, l, h, t, x, low);
     if n == 0 {
         heap::set_program(h, v);
         return;
@@ -84,18 +105,19 @@ pub fn go_on(p: &[u32], h: &mut [u32], i: u32)
     heap::set_position(h, tables::instruction_after(p, i));
 }
 
-// What instruction i does.
-pub fn commit(p: &[u32], l: &[u8], h: &mut [u32], t: &mut [u8], i: u32)
+// What instruction i does. Every frame below `low` is in use.
+pub fn commit(p: &[u32], l: &[u8], h: &mut [u32], t: &mut [u8], i: u32, low: u32)
     requires { ⌜ CanCommit (now p) (now l) (now h) (now t) i ⌝ }
+    requires { ⌜ FullBelow (now h) low ⌝ }
     ensures { λ _. ⌜ Commits (now (p .entry)) (now (l .entry)) (now (h .entry)) (now (t .entry)) i (now (h .exit)) (now (t .exit)) ⌝ }
 {
     match tables::instruction_at(p, i) {
         InstructionEntry::AssignSelf(j, n, x) => {
-            assign_self(p, l, h, t, j, n, x);
+            assign_self(p, l, h, t, j, n, x, low);
             go_on(p, h, i);
         }
         InstructionEntry::AssignProgram(j, n, x) => {
-            assign_program(p, l, h, t, j, n, x);
+            assign_program(p, l, h, t, j, n, x, low);
             go_on(p, h, i);
         }
         InstructionEntry::Show(_) => go_on(p, h, i),

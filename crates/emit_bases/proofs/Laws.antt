@@ -14,7 +14,8 @@ use Rattle.framed.specs.Grammar.{Path⊢}
 use Rattle.framed.specs.Paths.{Path, names-of, resolve-path}
 use Rattle.sweep.specs.Kinds.{kind-of, front-kind}
 use Rattle.token.specs.Reading.{fixed-kind}
-use Rattle.grammar.specs.Runs.{KindAt}
+use Rattle.grammar.specs.Runs.{Sees}
+use Rattle.grammar.specs.declared.Seen.{Seen}
 use Rattle.names.specs.Kept.{table-of}
 use Rattle.tables.specs.declared.ExpressionEntry.{ExpressionEntry}
 use Rattle.table_updates.specs.Updates.{set-expression}
@@ -24,6 +25,7 @@ use Rattle.emit_steps.specs.Steps.{numbers, place-of}
 use Rattle.emit_steps.specs.declared.Next.{Next}
 use Rattle.emit_steps.specs.declared.Place.{Place}
 use Rattle.emit_paths.specs.Emits.{Ahead, Small, Emitted, Emits, PathHere, path-emitted}
+use Rattle.emit_paths.proofs.Symbols.{seen-kind}
 use Rattle.emit_bases.specs.Bases.{kind-entry, path-base}
 
 pub entry-self : (k j n : ℕ) → k ≡ 1 → ExpressionEntry.FromSelf j n ≡ kind-entry k j n
@@ -41,16 +43,16 @@ unfolding kind-entry front-kind kind-of fixed-kind path-entry resolve-path names
 entry-is place _ vs _ (Path⊢.self d) j = refl
 entry-is place _ vs _ (Path⊢.up d g) j = refl
 
-module _ (s b e : List ℕ) (count : ℕ) (place : Place) (x : ℕ) (n : Next) (p : List ℕ) (k : ℕ) (h : KindAt s (n .at) k) (p₁ : List ℕ) (m : Next)
+module _ (s b e : List ℕ) (count : ℕ) (place : Place) (x : ℕ) (n : Next) (p : List ℕ) (t : Seen) (h : Sees s (n .at) t) (p₁ : List ℕ) (m : Next)
     (f : Emits (PathHere place) (path-emitted place) s (table-of s b e count) n p p₁ m) (d : ℕ) (ed : d ≡ m .paths - n .paths)
-    (y : ExpressionEntry) (ey : y ≡ kind-entry k (n .paths) d) (p' : List ℕ) (ep : p' ≡ set-expression p₁ x y) where
+    (y : ExpressionEntry) (ey : y ≡ kind-entry (t .kind) (n .paths) d) (p' : List ℕ) (ep : p' ≡ set-expression p₁ x y) where
   base-says : (us vs : List Symbol) (w : Written) → Ahead s (table-of s b e count) n us → PathHere place us w vs →
       Small (path-base place x w (emitting p (numbers n)) .next) → Emitted s (table-of s b e count) (path-base place x w (emitting p (numbers n))) p' m vs
   unfolding path-base path-emitted emit-base emit-path
   base-says us vs w a g l =
       let z = f .says us vs w a g l in
       let ns = names-of (resolve-path (place-of place) w) in
-      let kind : front-kind us ≡ k = ap front-kind (a .are) ∙ h .is (table-of s b e count) (n .strings) (n .codes) (a .tokens) (a .reads) in
+      let kind : front-kind us ≡ t .kind = seen-kind s (table-of s b e count) n t h us a in
       let words-is : p₁ ≡ emit-path ns (emitting p (numbers n)) .words = ap (λ (t : Emitting). t .words) (z .is) in
       let next-is : numbers m ≡ emit-path ns (emitting p (numbers n)) .next = ap (λ (t : Emitting). t .next) (z .is) in
       let size : d ≡ length ns = ed ∙ counted (m .paths) (n .paths) (length ns) (ap (λ (t : Numbers). t .path-names) next-is) in

@@ -15,46 +15,41 @@ use mir.Syntax.{w32}
 use mir.Val.{ofZ}
 use Rattle.framed.specs.Common.{if_then_else_}
 use Rattle.framed.specs.Bytes.{class}
-use Rattle.framed.specs.Tokens.{Token, Fixed, Operator, Tokens⊢, end, token, next, read, skip}
-use Rattle.framed.specs.Symbols.{Symbol, numbered}
+use Rattle.framed.specs.Tokens.{Token, Fixed, Operator, Tokens⊢, next, read, skip}
+use Rattle.framed.specs.Symbols.{Symbol, numbered, number-in}
 use Rattle.framed.specs.Tree.{Written, Base, Slots, Code, _then_}
 use Rattle.framed.specs.Grammar.{Path⊢, Base⊢, Slots⊢, Code⊢}
 use Rattle.framed.specs.Parse.{fails, parsed, fixed-number, this, a-base}
 use Rattle.framed.specs.Paths.{names-of, resolve-path, resolve-slots, resolve-code}
 use Rattle.framed.specs.Paths as Paths
-use Rattle.framed.proofs.TokensExact.{end≢token, no-token≢token, rest-inj}
 use Rattle.framed.proofs.ParseExact.{fails≢parsed, base-out}
 use Rattle.framed.proofs.ParseExact as Exact
-use Rattle.source.specs.Positions.{rest}
+use Rattle.source.specs.Positions.{rest, part}
 use Rattle.source.proofs.Positions.{rest-end}
-use Rattle.token.specs.Reading.{signed, fixed-kind, token-kind, token-of, meant, TokenAt, Spot}
+use Rattle.token.specs.Reading.{signed, fixed-kind, token-kind}
 use Rattle.token.specs.Reading as Reading
-use Rattle.token.specs.declared.TokenRead.{TokenRead}
-use Rattle.token.proofs.TokenRead.{the-type}
-use Rattle.token.proofs.KindNumbers.{kind-is}
-use Rattle.token.proofs.Answers.{spot-of}
 use Rattle.sweep.specs.Kinds.{kind-of, front-kind}
-use Rattle.grammar.specs.Runs.{KindAt, Meets, Outcome, Any}
+use Rattle.grammar.specs.Runs.{KindAt, Sees, Meets, Outcome, Any}
 use Rattle.grammar.specs.declared.Found.{Found}
+use Rattle.grammar.specs.declared.Seen.{Seen}
 use Rattle.grammar.proofs.Found as FoundType
 use Rattle.grammar.proofs.Combine.{by-this}
 use Rattle.names.specs.Kept.{table-of}
 use Rattle.ints.specs.Ints.{word-of}
 use Rattle.tables.specs.declared.ExpressionEntry.{ExpressionEntry}
 use Rattle.tables.specs.declared.InstructionEntry.{InstructionEntry}
-use Rattle.table_updates.specs.Updates.{set-expression, set-instruction, set-code-first, set-slot-link, set-instruction-link}
+use Rattle.table_updates.specs.Updates.{set-expression, set-instruction, set-code-first, set-slot-name, set-slot-link, set-instruction-link}
 use Rattle.shapes.specs.Numbers.{Numbers, base-size, code-size}
 use Rattle.emission.specs.Emit.{Emitting, emitting, emit-path, emit-base, emit-expression, assign-entry, operator-kind, link-to-slots, link-to-code, first-place}
-use Rattle.emit_steps.specs.Steps.{numbers, go-to, one-more, take-string, take-code, place-of, first-kind, Pass, PassTwo, PassFrame}
+use Rattle.emit_steps.specs.Steps.{numbers, go-to, one-more, take-string, take-code, place-of, first-kind, Pass, PassTwo}
 use Rattle.emit_steps.specs.declared.Next.{Next}
 use Rattle.emit_steps.specs.declared.Place.{Place}
-use Rattle.emit_steps.proofs.Laws.{token-inj, first-token}
 use Rattle.emit_paths.specs.Emits.{Ahead, Small, Emitted, Emits, PathHere, path-emitted}
-use Rattle.emit_paths.proofs.Symbols.{fixed-first, pass-fixed, pass-left, nothing-ahead}
+use Rattle.emit_paths.proofs.Symbols.{fixed-first, seen-fixed, seen-kind, seen-number, pass-left, nothing-ahead}
 use Rattle.emit_leaves.specs.Parts.{place-by, line-link-by, slot-link-by, assign-by, EmitsAny, IntegerHere, StringHere, OperatorHere, integer-emitted, string-emitted, operator-emitted}
-use Rattle.emit_leaves.specs.Parts.{is-operator, OperatorAfter, Skipped, TargetHere, target-emitted, BlockBegun, BlockOpened, FrameBegun, FrameOpened, SlotEnd, SlotClosed, LineEnd, LineClosed}
+use Rattle.emit_leaves.specs.Parts.{is-operator, OperatorAfter, Skipped, TargetHere, target-emitted, Stands, BlockBegun, BlockOpened, FrameBegun, FrameOpened, SlotNamed, SlotEnd, SlotClosed, LineEnd, LineClosed}
 use Rattle.emit_leaves.proofs.Numbers.{base-sizes, more-is}
-use Rattle.emit_leaves.proofs.Ahead.{integer-first, string-first, code-first, kind-here, ahead-same, skip-fixed, skipped-ahead, instruction-kind}
+use Rattle.emit_leaves.proofs.Ahead.{integer-first, string-first, code-first, ahead-same, skip-fixed, skipped-ahead, instruction-kind}
 
 -- ---- By the kind of the token that follows
 
@@ -129,77 +124,38 @@ signed-word w l = go (ltb w 2147483648) refl
     go true e = refl
     go false e = up w l (ltb-false w 2147483648 e)
 
-integer-inj : {z w : ℤ} → Token.integer z ≡ Token.integer w → z ≡ w
-integer-inj e = cc
-
-module _ (s : List ℕ) (x : ℕ) (n : Next) (p : List ℕ) (t : TokenRead) (found : TokenAt class s (n .at) t) where
-  no-first : OneOf (0 ∷ 1 ∷ []) (tagOf the-type t) → (u : Token) (ts : List Token) → Tokens⊢ class (rest s (n .at)) (u ∷ ts) → ⊥
-  unfolding meant
-  no-first o u ts d = go t (found .says) o
+module _ (s : List ℕ) (x : ℕ) (n : Next) (p : List ℕ) (t : Seen) (found : Sees s (n .at) t) (p' : List ℕ) (ep : p' ≡ set-expression p x (ExpressionEntry.Integer (t .word)))
+    (r : Next) (er : r ≡ go-to n (t .end)) where
+  integer-says : (table : List (List ℕ)) (us vs : List Symbol) (z : ℤ) → Ahead s table n us → IntegerHere us z vs → Emitted s table (integer-emitted x z (emitting p (numbers n))) p' r vs
+  unfolding integer-emitted emit-base
+  integer-says table _ vs z h IntegerHere.here =
+      let y = integer-first table (n .strings) (n .codes) (h .tokens) z vs (h .are) in
+      let d = rw (y .1) at (h .reads) in
+      let word : word-of z ≡ t .word = ap word-of (sym (found .word-is z (y .0) d)) ∙ signed-word (t .word) (found .word-small) in
+      record {
+        is = rw (ep, er, word);
+        ahead = rw er (record { tokens = y .0; reads = found .reads _ _ d; are = y .2; few = fewer (y .0) (rw (y .1) at (h .few)) });
+      }
     where
-      go : (q : TokenRead) → next class (rest s (n .at)) ≡ meant s q → OneOf (0 ∷ 1 ∷ []) (tagOf the-type q) → ⊥
-      go TokenRead.End h o = end≢token (sym h ∙ first-token d .1)
-      go TokenRead.NoToken h o = no-token≢token (sym h ∙ first-token d .1)
-      go (TokenRead.Token j a p x) h o = miss (0 ∷ 1 ∷ []) 2 tt o
+      fewer : (ts : List Token) → n .strings + suc (length ts) < 4294967295 → n .strings + length ts < 4294967295
+      fewer ts l = omega arith
 
-  pub integer-none : OneOf (0 ∷ 1 ∷ []) (tagOf the-type t) → EmitsAny IntegerHere (integer-emitted x) s n p p n
-  integer-none o = record { by = λ table. record { says = λ us vs z h g l. absurd (go table us vs z h g); on = omega arith }; on = omega arith }
-    where
-      go : (table : List (List ℕ)) (us vs : List Symbol) (z : ℤ) → Ahead s table n us → IntegerHere us z vs → ⊥
-      go table _ vs z h IntegerHere.here =
-          let y = integer-first table (n .strings) (n .codes) (h .tokens) z vs (h .are) in
-          no-first o (Token.integer z) (y .0) (rw (y .1) at (h .reads))
-
-  module _ (j a q w : ℕ) (et : t ≡ TokenRead.Token j a q w) (lw : w < 4294967296) (p' : List ℕ) (ep : p' ≡ set-expression p x (ExpressionEntry.Integer w)) (r : Next) (er : r ≡ go-to n q) where
-    spot : Spot (n .at) (length s) j a q
-    spot = spot-of t (found .on) et
-
-    says : next class (rest s (n .at)) ≡ token (token-of s j a q w) (rest s q)
-    unfolding meant
-    says = found .says ∙ ap (meant s) et
-
-    is-integer : (z : ℤ) (ts : List Token) → Tokens⊢ class (rest s (n .at)) (Token.integer z ∷ ts) → word-of z ≡ w
-    unfolding token-of token-kind
-    is-integer z ts d = go (token-inj (sym says ∙ first-token d .1))
-      where
-        kind : token-of s j a q w ≡ Token.integer z → j ≡ 26
-        kind e = sym (kind-is s a q w j (spot .known)) ∙ ap token-kind e
-
-        go : token-of s j a q w ≡ Token.integer z → word-of z ≡ w
-        go e = ap word-of (integer-inj (sym e ∙ rw (kind e))) ∙ signed-word w lw
-
-    integer-says : (table : List (List ℕ)) (us vs : List Symbol) (z : ℤ) → Ahead s table n us → IntegerHere us z vs → Emitted s table (integer-emitted x z (emitting p (numbers n))) p' r vs
-    unfolding integer-emitted emit-base
-    integer-says table _ vs z h IntegerHere.here =
-        let y = integer-first table (n .strings) (n .codes) (h .tokens) z vs (h .are) in
-        let d = rw (y .1) at (h .reads) in
-        record {
-          is = rw (ep, er, is-integer z (y .0) d);
-          ahead = rw er (record { tokens = y .0; reads = rw (rest-inj (sym (first-token d .1) ∙ says)) at (first-token d .2); are = y .2; few = fewer (y .0) (rw (y .1) at (h .few)) });
-        }
-      where
-        fewer : (ts : List Token) → n .strings + suc (length ts) < 4294967295 → n .strings + length ts < 4294967295
-        fewer ts l = omega arith
-
-    pub integer-one : EmitsAny IntegerHere (integer-emitted x) s n p p' r
-    integer-one = record { by = λ table. record { says = λ us vs z h g l. integer-says table us vs z h g; on = on }; on = on }
-      where
-        on : n .at ≤ r .at
-        on = rw er (omega (arith, spot .begins, spot .more))
+  pub integer-one : EmitsAny IntegerHere (integer-emitted x) s n p p' r
+  integer-one = record { by = λ table. record { says = λ us vs z h g l. integer-says table us vs z h g; on = rw er (found .on) }; on = rw er (found .on) }
 
 -- ---- A string
 
-module _ (s : List ℕ) (x : ℕ) (n : Next) (p : List ℕ) (q : ℕ) (y : Pass s (n .at) 27 q) (p' : List ℕ) (ep : p' ≡ set-expression p x (ExpressionEntry.Literal (n .strings))) (r : Next) (er : r ≡ take-string n q) where
+module _ (s : List ℕ) (x : ℕ) (n : Next) (p : List ℕ) (t : Seen) (y : Sees s (n .at) t) (p' : List ℕ) (ep : p' ≡ set-expression p x (ExpressionEntry.Literal (n .strings))) (r : Next) (er : r ≡ take-string n (t .end)) where
   string-says : (table : List (List ℕ)) (us vs : List Symbol) (k : ℕ) → Ahead s table n us → StringHere us k vs → Emitted s table (string-emitted x k (emitting p (numbers n))) p' r vs
-  unfolding string-emitted emit-base token-kind
+  unfolding string-emitted emit-base
   string-says table _ vs k h StringHere.here =
       let z = string-first table (n .strings) (n .codes) (h .tokens) k vs (h .are) in
-      let w = y .taken (Token.string (z .0)) (z .1) (rw (z .2) at (h .reads)) refl in
+      let d : Tokens⊢ class (rest s (t .end)) (z .1) = y .reads (Token.string (z .0)) (z .1) (rw (z .2) at (h .reads)) in
       let l : n .strings + suc (length (z .1)) < 4294967295 = rw (z .2) at (h .few) in
       let e : one-more (n .strings) ≡ suc (n .strings) = more-is (n .strings) (omega arith) ∙ add-one (n .strings) in
       record {
         is = rw (ep, er, z .3);
-        ahead = rw er (record { tokens = z .1; reads = w .reads; are = rw e (z .4); few = rw e (omega arith) });
+        ahead = rw er (record { tokens = z .1; reads = d; are = rw e (z .4); few = rw e (omega arith) });
       }
 
   pub string-one : EmitsAny StringHere (string-emitted x) s n p p' r
@@ -219,17 +175,17 @@ operator-numbers Operator.equal = refl
 operator-numbers Operator.and = refl
 operator-numbers Operator.or = refl
 
-module _ (s : List ℕ) (x a : ℕ) (n : Next) (p : List ℕ) (k : ℕ) (h : KindAt s (n .at) k) (q : ℕ) (y : Pass s (n .at) k q) (j : ℕ) (ej : j ≡ k - 9) (p' : List ℕ)
-    (ep : p' ≡ set-expression p x (ExpressionEntry.Operate j a (n .expressions))) (r : Next) (er : r ≡ go-to n q) where
+module _ (s : List ℕ) (x a : ℕ) (n : Next) (p : List ℕ) (t : Seen) (h : Sees s (n .at) t) (j : ℕ) (ej : j ≡ t .kind - 9) (p' : List ℕ)
+    (ep : p' ≡ set-expression p x (ExpressionEntry.Operate j a (n .expressions))) (r : Next) (er : r ≡ go-to n (t .end)) where
   operator-says : (table : List (List ℕ)) (us vs : List Symbol) (o : Operator) → Ahead s table n us → OperatorHere us o vs → Emitted s table (operator-emitted x a o (emitting p (numbers n))) p' r vs
   unfolding operator-emitted front-kind kind-of fixed-kind
   operator-says table _ vs o b OperatorHere.here =
-      let e : Reading.operator-kind o ≡ k = kind-here s table n (Symbol.fixed (Fixed.operator o) ∷ vs) k h b in
-      let z = pass-fixed s table n q (Fixed.operator o) vs (rw e y) b in
+      let e : Reading.operator-kind o ≡ t .kind = seen-kind s table n t h (Symbol.fixed (Fixed.operator o) ∷ vs) b in
+      let z = seen-fixed s table n t h (Fixed.operator o) vs b in
       record { is = rw (ep, er, ej, ← e, operator-numbers o); ahead = rw er (z .ahead) }
 
   pub operator-one : EmitsAny OperatorHere (operator-emitted x a) s n p p' r
-  operator-one = record { by = λ table. record { says = λ us vs o b g l. operator-says table us vs o b g; on = rw er (y .on) }; on = rw er (y .on) }
+  operator-one = record { by = λ table. record { says = λ us vs o b g l. operator-says table us vs o b g; on = rw er (h .on) }; on = rw er (h .on) }
 
 -- ---- An operator after a base
 
@@ -289,16 +245,16 @@ unfolding assign-by front-kind kind-of fixed-kind assign-entry resolve-path name
 entry-is place _ vs _ (Path⊢.self d) j e = refl
 entry-is place _ vs _ (Path⊢.up d g) j e = refl
 
-module _ (s b e : List ℕ) (count : ℕ) (place : Place) (i : ℕ) (n : Next) (p : List ℕ) (k : ℕ) (h : KindAt s (n .at) k) (p₁ : List ℕ) (u : Next)
+module _ (s b e : List ℕ) (count : ℕ) (place : Place) (i : ℕ) (n : Next) (p : List ℕ) (t : Seen) (h : Sees s (n .at) t) (p₁ : List ℕ) (u : Next)
     (f : Emits (PathHere place) (path-emitted place) s (table-of s b e count) n p p₁ u) (d : ℕ) (ed : d ≡ u .paths - n .paths)
-    (y : InstructionEntry) (ey : y ≡ assign-by k (n .paths) d (u .expressions)) (p' : List ℕ) (ep : p' ≡ set-instruction p₁ i y) (r : Next) (z : Skipped s u 6 r) where
+    (y : InstructionEntry) (ey : y ≡ assign-by (t .kind) (n .paths) d (u .expressions)) (p' : List ℕ) (ep : p' ≡ set-instruction p₁ i y) (r : Next) (z : Skipped s u 6 r) where
   target-says : (us vs : List Symbol) (w : Written) → Ahead s (table-of s b e count) n us → TargetHere place us w vs →
       Small (target-emitted place i w (emitting p (numbers n)) .next) → Emitted s (table-of s b e count) (target-emitted place i w (emitting p (numbers n))) p' r vs
   unfolding target-emitted path-emitted emit-path front-kind kind-of fixed-kind
   target-says us vs w a g l =
       let v = f .says us (Symbol.fixed Fixed.assign ∷ vs) w a (record { path = g .path; no-dot = other; ok = g .ok }) l in
       let ns = names-of (resolve-path (place-of place) w) in
-      let kind : front-kind us ≡ k = kind-here s (table-of s b e count) n us k h a in
+      let kind : front-kind us ≡ t .kind = seen-kind s (table-of s b e count) n t h us a in
       let words-is : p₁ ≡ emit-path ns (emitting p (numbers n)) .words = ap (λ (t : Emitting). t .words) (v .is) in
       let next-is : numbers u ≡ emit-path ns (emitting p (numbers n)) .next = ap (λ (t : Emitting). t .next) (v .is) in
       let size : d ≡ length ns = ed ∙ counted (u .paths) (n .paths) (length ns) (ap (λ (t : Numbers). t .path-names) next-is) in
@@ -326,9 +282,9 @@ end-tokens : (s : List ℕ) (at : ℕ) → length s ≤ at → Tokens⊢ class (
 unfolding next read skip
 end-tokens s at l = rw (rest-end s at l) (Tokens⊢.at-end refl)
 
-inside-pass : (s : List ℕ) (at j k q : ℕ) → PassTwo s at j k q → (29 ≡ j → ⊥) → at < q → at < length s
+inside-pass : (s : List ℕ) (at k q : ℕ) → Pass s at k q → (29 ≡ k → ⊥) → at < q → at < length s
 unfolding first-kind
-inside-pass s at j k q x n l = go (ltb at (length s)) refl
+inside-pass s at k q x n l = go (ltb at (length s)) refl
   where
     stays : q ≡ at → ⊥
     stays e = omega arith
@@ -337,8 +293,8 @@ inside-pass s at j k q x n l = go (ltb at (length s)) refl
     go true e = ltb-true at (length s) e
     go false e = absurd (stays (x .left [] (end-tokens s at (ltb-false at (length s) e)) n))
 
-module _ (s : List ℕ) (x : ℕ) (n : Next) (p : List ℕ) (q : ℕ) (y : PassTwo s (n .at) 28 14 q) (k : ℕ) (h : KindAt s q k) (f : ℕ) (ef : f ≡ place-by k (n .instructions))
-    (p₁ : List ℕ) (e₁ : p₁ ≡ set-code-first p (n .codes) f) (p' : List ℕ) (ep : p' ≡ set-expression p₁ x (ExpressionEntry.Code (n .codes))) (r : Next) (er : r ≡ take-code n q) where
+module _ (s : List ℕ) (x : ℕ) (n : Next) (p : List ℕ) (t : Seen) (seen : Sees s (n .at) t) (q : ℕ) (y : Pass s (t .end) 14 q) (c : Seen) (h : Sees s q c)
+    (f : ℕ) (ef : f ≡ place-by (c .kind) (n .instructions)) (p₁ : List ℕ) (e₁ : p₁ ≡ set-code-first p (n .codes) f) (p' : List ℕ) (ep : p' ≡ set-expression p₁ x (ExpressionEntry.Code (n .codes))) (r : Next) (er : r ≡ take-code n q) where
   block-says : (table : List (List ℕ)) (us vs : List Symbol) (j : ℕ) (is : Code Written) (place : Paths.Place) →
       Ahead s table n (Symbol.code j ∷ Symbol.fixed Fixed.open-curly ∷ us) → Code⊢ us is vs → front-kind vs ≡ 15 →
       Small (emit-base (Base.code j (resolve-code place is)) x (emitting p (numbers n)) .next) → BlockBegun s table j x (resolve-code place is) n p us p' r
@@ -347,7 +303,7 @@ module _ (s : List ℕ) (x : ℕ) (n : Next) (p : List ℕ) (q : ℕ) (y : PassT
       let ss = resolve-code place is in
       let z = code-first table (n .strings) (n .codes) (a .tokens) j (Symbol.fixed Fixed.open-curly ∷ us) (a .are) in
       let w = fixed-first table (n .strings) (suc (n .codes)) (z .0) Fixed.open-curly us (z .3) in
-      let v = y .taken Token.code (Token.fixed Fixed.open-curly) (w .0) (rw (z .1, w .1) at (a .reads)) refl refl in
+      let v = y .taken (Token.fixed Fixed.open-curly) (w .0) (seen .reads Token.code (Token.fixed Fixed.open-curly ∷ w .0) (rw (z .1, w .1) at (a .reads))) refl in
       let sizes = rw (base-sizes (Base.code j ss) x (emitting p (numbers n))) at l in
       let more : one-more (n .codes) ≡ n .codes + 1 = more-is (n .codes) (omega (arith, sizes .codes-small)) in
       let b : Ahead s table r us = rw er (record {
@@ -356,27 +312,36 @@ module _ (s : List ℕ) (x : ℕ) (n : Next) (p : List ℕ) (q : ℕ) (y : PassT
         are = rw (more, add-one (n .codes)) (w .2);
         few = fewer (w .0) (rw (z .1, w .1) at (a .few));
       }) in
-      let kind : front-kind us ≡ k = kind-here s table r us k (rw er h) b in
+      let kind : front-kind us ≡ c .kind = seen-kind s table r c (rw er h) us b in
       let first : f ≡ first-place ss (n .instructions) = ef ∙ rw (← kind) (place-is us vs is place (n .instructions) g e (omega (arith, sizes .instructions-small))) in
-      record { further = rw er (v .further); ahead = b; whole = rw (ep, e₁, er, first, z .2, more) }
+      record { further = rw er (omega (arith, seen .on, v .further)); ahead = b; whole = rw (ep, e₁, er, first, z .2, more) }
     where
       fewer : (ts : List Token) → n .strings + suc (suc (length ts)) < 4294967295 → n .strings + length ts < 4294967295
       fewer ts l = omega arith
 
-  pub block-one : BlockOpened s x n p p' r
+  in-source : n .at < q → n .at < length s
+  in-source l = go (ltb (t .end) q) refl
+    where
+      go : (u : Bool) → ltb (t .end) q ≡ u → n .at < length s
+      go true e = omega (arith, seen .on, inside-pass s (t .end) 14 q y (λ i. absurd (omega arith)) (ltb-true (t .end) q e))
+      go false e = seen .inside (omega (arith, ltb-false (t .end) q e))
+
+  pub block-one : Stands s (BlockOpened s x n p p') (record { next = r; seen = c })
   block-one = record {
-    says = block-says;
-    on = rw er (y .on);
-    inside = λ l. inside-pass s (n .at) 28 14 q y (λ e. absurd (omega arith)) (rw er at l);
+    done = record { says = block-says; on = rw er (omega (arith, seen .on, y .on)); inside = λ l. in-source (rw er at l) };
+    seen = rw er h;
   }
 
 -- ---- Where a frame begins
 
-module _ (s : List ℕ) (x : ℕ) (n : Next) (p : List ℕ) where
-  pub frame-past : length s ≤ n .at → FrameOpened s x n p p n
-  frame-past l = record { says = λ table us vs ss place a g e. absurd (nothing-ahead s table n Fixed.frame _ l a); on = omega arith; inside = λ h. absurd (omega arith) }
+module _ (s : List ℕ) (x : ℕ) (n : Next) (p : List ℕ) (t : Seen) (seen : Sees s (n .at) t) where
+  pub frame-past : length s ≤ n .at → Stands s (FrameOpened s x n p p) (record { next = n; seen = t })
+  frame-past l = record {
+    done = record { says = λ table us vs ss place a g e. absurd (nothing-ahead s table n Fixed.frame _ l a); on = omega arith; inside = λ h. absurd (omega arith) };
+    seen = seen;
+  }
 
-  module _ (l : n .at < length s) (q : ℕ) (y : PassFrame s (n .at) q) (k : ℕ) (h : KindAt s q k) (d : ℕ) (ed : d ≡ slot-link-by k x (n .expressions))
+  module _ (l : n .at < length s) (q : ℕ) (y : PassTwo s (t .end) 5 12 q) (c : Seen) (h : Sees s q c) (d : ℕ) (ed : d ≡ slot-link-by (c .kind) x (n .expressions))
       (p' : List ℕ) (ep : p' ≡ set-expression p x (ExpressionEntry.Frame d)) (r : Next) (er : r ≡ go-to n q) where
     frame-says : (table : List (List ℕ)) (us vs : List Symbol) (ss : Slots Written) (place : Paths.Place) →
         Ahead s table n (Symbol.fixed Fixed.frame ∷ Symbol.fixed Fixed.colon ∷ Symbol.fixed Fixed.open-square ∷ us) → Slots⊢ us ss vs → front-kind vs ≡ 13 →
@@ -386,26 +351,33 @@ module _ (s : List ℕ) (x : ℕ) (n : Next) (p : List ℕ) where
         let z = fixed-first table (n .strings) (n .codes) (a .tokens) Fixed.frame _ (a .are) in
         let w = fixed-first table (n .strings) (n .codes) (z .0) Fixed.colon _ (z .2) in
         let v = fixed-first table (n .strings) (n .codes) (w .0) Fixed.open-square us (w .2) in
-        let m = y .taken (Token.fixed Fixed.frame) (Token.fixed Fixed.colon) (Token.fixed Fixed.open-square) (v .0) (rw (z .1, w .1, v .1) at (a .reads)) refl refl refl in
+        let after = seen .reads (Token.fixed Fixed.frame) (Token.fixed Fixed.colon ∷ Token.fixed Fixed.open-square ∷ v .0) (rw (z .1, w .1, v .1) at (a .reads)) in
+        let m = y .taken (Token.fixed Fixed.colon) (Token.fixed Fixed.open-square) (v .0) after refl refl in
         let b : Ahead s table r us = rw er (record { tokens = v .0; reads = m .reads; are = v .2; few = fewer (v .0) (rw (z .1, w .1, v .1) at (a .few)) }) in
-        let kind : front-kind us ≡ k = kind-here s table r us k (rw er h) b in
+        let kind : front-kind us ≡ c .kind = seen-kind s table r c (rw er h) us b in
         let link : d ≡ link-to-slots (resolve-slots place ss) x (n .expressions) = ed ∙ rw (← kind) (slots-by us vs ss place x (n .expressions) g e) in
-        record { further = rw er (m .further); ahead = b; whole = rw (ep, er, link) }
+        record { further = rw er (omega (arith, seen .on, m .further)); ahead = b; whole = rw (ep, er, link) }
       where
         fewer : (ts : List Token) → n .strings + suc (suc (suc (length ts))) < 4294967295 → n .strings + length ts < 4294967295
         fewer ts l = omega arith
 
-    pub frame-one : FrameOpened s x n p p' r
-    frame-one = record { says = frame-says; on = rw er (y .on); inside = λ h. l }
+    pub frame-one : Stands s (FrameOpened s x n p p') (record { next = r; seen = c })
+    frame-one = record { done = record { says = frame-says; on = rw er (omega (arith, seen .on, y .on)); inside = λ h. l }; seen = rw er h }
+
+-- ---- The name of a slot
+
+pub slot-named : (s b e : List ℕ) (count : ℕ) (n : Next) (p : List ℕ) (t : Seen) → Sees s (n .at) t → (k : ℕ) → k ≡ number-in (table-of s b e count) (part s (t .begin) (t .end)) →
+    (p' : List ℕ) → p' ≡ set-slot-name p (n .expressions) k → SlotNamed s b e count n p p' k
+slot-named s b e count n p t x k ek p' ep = record { number = seen-number s b e count (n .at) t x k ek; words = ep }
 
 -- ---- Where a slot ends
 
-module _ (s : List ℕ) (y : ℕ) (u : Next) (p : List ℕ) (m : Next) (x : Skipped s u 11 m) (k : ℕ) (h : KindAt s (m .at) k) (d : ℕ) (ed : d ≡ slot-link-by k y (u .expressions))
+module _ (s : List ℕ) (y : ℕ) (u : Next) (p : List ℕ) (m : Next) (x : Skipped s u 11 m) (c : Seen) (h : Sees s (m .at) c) (d : ℕ) (ed : d ≡ slot-link-by (c .kind) y (u .expressions))
     (p' : List ℕ) (ep : p' ≡ set-slot-link p y d) where
   ended : (table : List (List ℕ)) (us vs : List Symbol) (ss : Slots Written) (place : Paths.Place) → Ahead s table m us → Slots⊢ us ss vs → front-kind vs ≡ 13 →
       SlotEnd s table y (resolve-slots place ss) u p us p' m
   ended table us vs ss place a g e =
-      let kind : front-kind us ≡ k = kind-here s table m us k h a in
+      let kind : front-kind us ≡ c .kind = seen-kind s table m c h us a in
       let link : d ≡ link-to-slots (resolve-slots place ss) y (u .expressions) = ed ∙ rw (← kind) (slots-by us vs ss place y (u .expressions) g e) in
       record { ahead = a; linked = ap (λ (t : Next). emitting p' (numbers t)) (x .same) ∙ rw (ep, link) }
 
@@ -418,17 +390,20 @@ module _ (s : List ℕ) (y : ℕ) (u : Next) (p : List ℕ) (m : Next) (x : Skip
       same-ahead : Ahead s table u vs → Ahead s table (go-to u (u .at)) vs
       same-ahead a = ahead-same s table u (go-to u (u .at)) vs refl refl refl a
 
-  pub slot-end : SlotClosed s y u p p' m
+  closed : SlotClosed s y u p p' m
   unfolding resolve-slots fixed-kind
-  slot-end = record {
+  closed = record {
     last = λ table vs a e. ended table vs vs Slots.no-slots Paths.program-place (stays table vs a e) Slots⊢.no-slots e;
     more = λ table us vs ss place a g e. ended table us vs ss place (skipped-ahead s table u m 11 us x (skip-fixed s table u m Fixed.comma us x a .ahead)) g e;
     on = x .pass .on;
   }
 
+  pub slot-end : Stands s (SlotClosed s y u p p') (record { next = m; seen = c })
+  slot-end = record { done = closed; seen = h }
+
 -- ---- Where an instruction ends
 
-module _ (s : List ℕ) (i : ℕ) (u : Next) (p : List ℕ) (m : Next) (x : Skipped s u 10 m) (k : ℕ) (h : KindAt s (m .at) k) (d : ℕ) (ed : d ≡ line-link-by k i (u .instructions))
+module _ (s : List ℕ) (i : ℕ) (u : Next) (p : List ℕ) (m : Next) (x : Skipped s u 10 m) (c : Seen) (h : Sees s (m .at) c) (d : ℕ) (ed : d ≡ line-link-by (c .kind) i (u .instructions))
     (p' : List ℕ) (ep : p' ≡ set-instruction-link p i d) where
   line-says : (table : List (List ℕ)) (us vs : List Symbol) (is : Code Written) (place : Paths.Place) → Ahead s table u (Symbol.fixed Fixed.semicolon ∷ us) → Code⊢ us is vs →
       front-kind vs ≡ 15 → LineEnd s table i (resolve-code place is) u p us p' m
@@ -436,9 +411,9 @@ module _ (s : List ℕ) (i : ℕ) (u : Next) (p : List ℕ) (m : Next) (x : Skip
   line-says table us vs is place a g e =
       let z = skip-fixed s table u m Fixed.semicolon us x a in
       let b = skipped-ahead s table u m 10 us x (z .ahead) in
-      let kind : front-kind us ≡ k = kind-here s table m us k h b in
+      let kind : front-kind us ≡ c .kind = seen-kind s table m c h us b in
       let link : d ≡ link-to-code (resolve-code place is) i (u .instructions) = ed ∙ rw (← kind) (lines-by us vs is place i (u .instructions) g e) in
       record { further = z .further; ahead = b; linked = ap (λ (t : Next). emitting p' (numbers t)) (x .same) ∙ rw (ep, link) }
 
-  pub line-end : LineClosed s i u p p' m
-  line-end = record { says = line-says; on = x .pass .on }
+  pub line-end : Stands s (LineClosed s i u p p') (record { next = m; seen = c })
+  line-end = record { done = record { says = line-says; on = x .pass .on }; seen = h }

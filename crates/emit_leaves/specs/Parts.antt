@@ -16,6 +16,7 @@ use Rattle.framed.specs.Paths.{names-of, resolve-path, resolve-slots, resolve-c
 use Rattle.framed.specs.Paths as Paths
 use Rattle.source.specs.Positions.{rest}
 use Rattle.sweep.specs.Kinds.{front-kind}
+use Rattle.grammar.specs.Runs.{Sees}
 use Rattle.tables.specs.declared.ExpressionEntry.{ExpressionEntry}
 use Rattle.tables.specs.declared.InstructionEntry.{InstructionEntry}
 use Rattle.table_updates.specs.Updates.{set-expression, set-instruction, set-slot-name, set-slot-link, set-instruction-link}
@@ -25,6 +26,7 @@ use Rattle.emit_steps.specs.Steps.{numbers, go-to, one-more, place-of, Pass}
 use Rattle.emit_steps.specs.declared.Next.{Next}
 use Rattle.emit_steps.specs.declared.Place.{Place}
 use Rattle.emit_paths.specs.Emits.{Ahead, Small, Emits, PlaceOk}
+use Rattle.emit_leaves.specs.declared.Stand.{Stand}
 
 -- ---- By the kind of the token that follows
 
@@ -98,6 +100,11 @@ target-emitted place i w t =
     emitting (set-instruction (u .words) i (assign-entry q (t .next .path-names) (u .next .expressions))) (u .next)
 
 -- ---- Where a code or a frame begins
+
+-- emission stands where P says, and the token there was seen
+pub record Stands (s : List ℕ) (P : Next → Type 0) (r : Stand) : Type 0 where
+  pub done : P (r .next)
+  pub seen : Sees s (r .next .at) (r .seen)
 
 pub record BlockBegun (s : List ℕ) (table : List (List ℕ)) (k x : ℕ) (is : Code Paths.Path) (n : Next) (p : List ℕ) (us : List Symbol) (p' : List ℕ) (r : Next) : Type 0 where
   pub further : n .at < r .at

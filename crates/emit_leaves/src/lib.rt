@@ -1,15 +1,22 @@
 // The leaves of the tree and where its parts begin and end, written into program words: what the cycle of `emit_tree` calls.
 ghost use mathlib.Core.Path.{_≡_};
 ghost use Rattle.names.specs.Kept.{table-of};
+ghost use Rattle.grammar.specs.Runs.{Sees};
 ghost use Rattle.emit_paths.specs.Emits.{Emits};
 ghost use Rattle.emit_leaves.specs.Parts.{place-by, line-link-by, slot-link-by, assign-by, EmitsAny, IntegerHere, StringHere, OperatorHere, integer-emitted, string-emitted, operator-emitted};
-ghost use Rattle.emit_leaves.specs.Parts.{OperatorAfter, Skipped, TargetHere, target-emitted, BlockOpened, FrameOpened, SlotNamed, SlotClosed, LineClosed};
+ghost use Rattle.emit_leaves.specs.Parts.{OperatorAfter, Skipped, TargetHere, target-emitted, Stands, BlockOpened, FrameOpened, SlotNamed, SlotClosed, LineClosed};
 use emit_steps::Next;
 use emit_steps::Place;
 use grammar::Found;
+use grammar::Seen;
 use tables::ExpressionEntry;
 use tables::InstructionEntry;
-use token::TokenRead;
+
+// Where emission stands, and the token there.
+pub struct Stand {
+    pub next: Next,
+    pub seen: Seen,
+}
 
 // ---- By the kind of the token that follows
 
@@ -55,43 +62,40 @@ fn assign_entry(k: u32, j: u32, length: u32, e: u32) -> InstructionEntry
 
 // ---- One token
 
-// An integer as expression x.
-pub fn integer(s: &[u8], p: &mut [u32], x: u32, n: Next) -> Next
+// An integer, the token t, as expression x.
+pub fn integer(s: &[u8], p: &mut [u32], x: u32, n: Next, t: Seen) -> Next
+    requires { ⌜ Sees (now s) (n .at) t ⌝ }
     ensures { λ r. ⌜ EmitsAny IntegerHere (integer-emitted x) (now (s .entry)) n (now (p .entry)) (now (p .exit)) r ⌝ }
 {
-    let t = token::token_at(s, n.at);
-    let TokenRead::Token(_k, _a, q, w) = t else {
-        return n;
-    };
-    table_updates::set_expression(p, x, ExpressionEntry::Integer(w));
-    emit_steps::go_to(n, q)
+    table_updates::set_expression(p, x, ExpressionEntry::Integer(t.word));
+    emit_steps::go_to(n, t.end)
 }
 
-// A string as expression x.
-pub fn string(s: &[u8], p: &mut [u32], x: u32, n: Next) -> Next
+// A string, the token t, as expression x.
+pub fn string(s: &[u8], p: &mut [u32], x: u32, n: Next, t: Seen) -> Next
+    requires { ⌜ Sees (now s) (n .at) t ⌝ }
     ensures { λ r. ⌜ EmitsAny StringHere (string-emitted x) (now (s .entry)) n (now (p .entry)) (now (p .exit)) r ⌝ }
 {
-    let q = emit_steps::pass(s, n.at, 27);
     table_updates::set_expression(p, x, ExpressionEntry::Literal(n.strings));
-    emit_steps::one_string(n, q)
+    emit_steps::one_string(n, t.end)
 }
 
 // An operator as expression x, whose operands are a and the next expression.
 pub fn operator(s: &[u8], p: &mut [u32], x: u32, a: u32, n: Next) -> Next
     ensures { λ r. ⌜ EmitsAny OperatorHere (operator-emitted x a) (now (s .entry)) n (now (p .entry)) (now (p .exit)) r ⌝ }
 {
-    let k = grammar::kind_at(s, n.at);
-    let q = emit_steps::pass(s, n.at, k);
-    let j = emit_steps::less(k, 9);
+    let t = grammar::look(s, n.at);
+    let j = emit_steps::less(t.kind, 9);
     table_updates::set_expression(p, x, ExpressionEntry::Operate(j, a, n.expressions));
-    emit_steps::go_to(n, q)
+    emit_steps::go_to(n, t.end)
 }
 
-// An operator follows the base that begins there.
-pub fn operator_after(s: &[u8], at: usize) -> bool
+// An operator follows the base that begins there with the token t.
+pub fn operator_after(s: &[u8], at: usize, t: Seen) -> bool
+    requires { ⌜ Sees (now s) at t ⌝ }
     ensures { λ r. ⌜ OperatorAfter (now (s .entry)) at r ⌝ }
 {
-    let x = grammar::base(s, at);
+    let x = grammar::base_from(s, at, t);
     let Found::Done(p) = x else {
         return false;
     };
@@ -115,7 +119,7 @@ pub fn skip(s: &[u8], n: Next, k: u32) -> Next
 
 // ---- The path of an assignment
 
-// Path and `:=` of instruction i.
+// Path and `:=` of instruction i; its first token is t.
 pub fn assign_target(
     s: &[u8],
     begins: &[usize],
@@ -125,48 +129,53 @@ pub fn assign_target(
     place: Place,
     i: u32,
     n: Next,
+    t: Seen,
 ) -> Next
+    requires { ⌜ Sees (now s) (n .at) t ⌝ }
     ensures { λ r. ⌜ Emits (TargetHere place) (target-emitted place i) (now (s .entry)) (table-of (now (s .entry)) (now (begins .entry)) (now (ends .entry)) count) n (now (p .entry)) (now (p .exit)) r ⌝ }
 {
-    let k = grammar::kind_at(s, n.at);
-    let u = emit_paths::emit_path(s, begins, ends, count, p, place, n);
+    let u = emit_paths::emit_path(s, begins, ends, count, p, place, n, t);
     let d = emit_steps::less(u.paths, n.paths);
-    let e = assign_entry(k, n.paths, d, u.expressions);
+    let e = assign_entry(t.kind, n.paths, d, u.expressions);
     table_updates::set_instruction(p, i, e);
     skip(s, u, 6)
 }
 
 // ---- Where a code or a frame begins
 
-// `code` `{` of expression x.
-pub fn open_block(s: &[u8], p: &mut [u32], x: u32, n: Next) -> Next
-    ensures { λ r. ⌜ BlockOpened (now (s .entry)) x n (now (p .entry)) (now (p .exit)) r ⌝ }
+// `code`, the token t, and `{` of expression x.
+pub fn open_block(s: &[u8], p: &mut [u32], x: u32, n: Next, t: Seen) -> Stand
+    requires { ⌜ Sees (now s) (n .at) t ⌝ }
+    ensures { λ r. ⌜ Stands (now (s .entry)) (BlockOpened (now (s .entry)) x n (now (p .entry)) (now (p .exit))) r ⌝ }
 {
-    let q = emit_steps::pass_two(s, n.at, 28, 14);
-    let k = grammar::kind_at(s, q);
-    let f = first_place(k, n.instructions);
+    let q = emit_steps::pass(s, t.end, 14);
+    let u = grammar::look(s, q);
+    let f = first_place(u.kind, n.instructions);
     table_updates::set_code_first(p, n.codes, f);
     table_updates::set_expression(p, x, ExpressionEntry::Code(n.codes));
-    emit_steps::one_code(n, q)
+    let m = emit_steps::one_code(n, q);
+    Stand { next: m, seen: u }
 }
 
-// `frame` `:` `[` of expression x.
-pub fn open_frame(s: &[u8], p: &mut [u32], x: u32, n: Next) -> Next
-    ensures { λ r. ⌜ FrameOpened (now (s .entry)) x n (now (p .entry)) (now (p .exit)) r ⌝ }
+// `frame`, the token t, and `:` `[` of expression x.
+pub fn open_frame(s: &[u8], p: &mut [u32], x: u32, n: Next, t: Seen) -> Stand
+    requires { ⌜ Sees (now s) (n .at) t ⌝ }
+    ensures { λ r. ⌜ Stands (now (s .entry)) (FrameOpened (now (s .entry)) x n (now (p .entry)) (now (p .exit))) r ⌝ }
 {
     if s.len() <= n.at {
-        return n;
+        return Stand { next: n, seen: t };
     }
-    let q = emit_steps::pass_frame(s, n.at);
-    let k = grammar::kind_at(s, q);
-    let d = slot_link(k, x, n.expressions);
+    let q = emit_steps::pass_two(s, t.end, 5, 12);
+    let u = grammar::look(s, q);
+    let d = slot_link(u.kind, x, n.expressions);
     table_updates::set_expression(p, x, ExpressionEntry::Frame(d));
-    emit_steps::go_to(n, q)
+    let m = emit_steps::go_to(n, q);
+    Stand { next: m, seen: u }
 }
 
 // ---- Slots and instructions
 
-// The name that stands there, as slot name of the next expression: its number.
+// The name that stands there, the token t, as slot name of the next expression: its number.
 pub fn name_slot(
     s: &[u8],
     begins: &[usize],
@@ -174,32 +183,34 @@ pub fn name_slot(
     count: u32,
     p: &mut [u32],
     n: Next,
+    t: Seen,
 ) -> u32
+    requires { ⌜ Sees (now s) (n .at) t ⌝ }
     ensures { λ r. ⌜ SlotNamed (now (s .entry)) (now (begins .entry)) (now (ends .entry)) count n (now (p .entry)) (now (p .exit)) r ⌝ }
 {
-    let k = emit_names::name_at(s, begins, ends, count, n.at);
+    let k = emit_paths::name_number(s, begins, ends, count, t);
     table_updates::set_slot_name(p, n.expressions, k);
     k
 }
 
 // The end of slot y, with its comma where there is one: its link.
-pub fn close_slot(s: &[u8], p: &mut [u32], y: u32, u: Next) -> Next
-    ensures { λ r. ⌜ SlotClosed (now (s .entry)) y u (now (p .entry)) (now (p .exit)) r ⌝ }
+pub fn close_slot(s: &[u8], p: &mut [u32], y: u32, u: Next) -> Stand
+    ensures { λ r. ⌜ Stands (now (s .entry)) (SlotClosed (now (s .entry)) y u (now (p .entry)) (now (p .exit))) r ⌝ }
 {
     let m = skip(s, u, 11);
-    let k = grammar::kind_at(s, m.at);
-    let d = slot_link(k, y, u.expressions);
+    let t = grammar::look(s, m.at);
+    let d = slot_link(t.kind, y, u.expressions);
     table_updates::set_slot_link(p, y, d);
-    m
+    Stand { next: m, seen: t }
 }
 
 // The end of instruction i, with its `;`: its link.
-pub fn close_line(s: &[u8], p: &mut [u32], i: u32, u: Next) -> Next
-    ensures { λ r. ⌜ LineClosed (now (s .entry)) i u (now (p .entry)) (now (p .exit)) r ⌝ }
+pub fn close_line(s: &[u8], p: &mut [u32], i: u32, u: Next) -> Stand
+    ensures { λ r. ⌜ Stands (now (s .entry)) (LineClosed (now (s .entry)) i u (now (p .entry)) (now (p .exit))) r ⌝ }
 {
     let m = skip(s, u, 10);
-    let k = grammar::kind_at(s, m.at);
-    let d = line_link(k, i, u.instructions);
+    let t = grammar::look(s, m.at);
+    let d = line_link(t.kind, i, u.instructions);
     table_updates::set_instruction_link(p, i, d);
-    m
+    Stand { next: m, seen: t }
 }

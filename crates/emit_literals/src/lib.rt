@@ -38,10 +38,11 @@ pub fn write_literals(s: &[u8], p: &mut [u32], l: &mut [u8]) -> u32
     requires { ⌜ Short (now s) ⌝ }
     ensures { λ r. ⌜ AllWritten (now (s .entry)) (now (p .entry)) (now (l .entry)) (now (p .exit)) (now (l .exit)) r ⌝ }
 {
+    let classes = source::classes();
     let mut k = 0;
     let mut at = 0;
     while at < s.len() {
-        let t = token::token_at(s, at);
+        let t = token::token_in(&classes, s, at);
         let TokenRead::Token(j, a, q, _w) = t else {
             return k;
         };

@@ -15,13 +15,12 @@ use denote.Enum.Declared.{tagOf}
 use borrow.Author.Tests.{eq-eqb, ne-eqb, eqb-true, eqb-false}
 use Rattle.framed.specs.Common.{if_then_else_, any, same}
 use Rattle.framed.specs.Bytes.{class}
-use Rattle.framed.specs.Tokens.{Token, tokens, Tokens⊢, end, no-token, token, next}
+use Rattle.framed.specs.Tokens.{Token, tokens, token}
 use Rattle.framed.specs.Symbols.{names-after, name-table, number-in}
-use Rattle.framed.proofs.TokensExact.{end≢token, no-token≢token}
 use Rattle.source.specs.Positions.{rest, part}
 use Rattle.words.specs.Words.{word, set-word}
 use Rattle.words.proofs.Laws.{set-size}
-use Rattle.token.specs.Reading.{token-of, token-kind, meant, TokenAt, Spot}
+use Rattle.token.specs.Reading.{token-of, TokenAt, Spot}
 use Rattle.token.specs.declared.TokenRead.{TokenRead}
 use Rattle.token.proofs.TokenRead.{the-type}
 use Rattle.token.proofs.KindNumbers.{kind-is}
@@ -34,8 +33,7 @@ use Rattle.names.proofs.Laws.{table-length, table-more}
 use Rattle.table_updates.specs.Updates.{set-name-length, set-name-byte}
 use Rattle.emission.specs.Emit.{write-name-bytes, write-names}
 use Rattle.names.proofs.Laws.{grows, names-other, names-name}
-use Rattle.emit_steps.proofs.Laws.{token-inj, first-token}
-use Rattle.emit_names.specs.Table.{NumberAt, Few, Sized, Kept, write-kept}
+use Rattle.emit_names.specs.Table.{Few, Sized, Kept, write-kept}
 
 -- ---- The number of a name
 
@@ -111,36 +109,6 @@ module _ (s b e : List ℕ) (n : ℕ) (w : List ℕ) (k : ℕ) (i : Seeking s b 
 
   pub seek-again : t ≡ false → Seeking s b e n w (k + 1)
   seek-again d = rw (add-one k) (record { within = omega arith; not-yet = rw d at seek-last })
-
--- ---- The number of the name at a position
-
-name≢ : (s w : List ℕ) (k a p x : ℕ) → k < 29 → token-of s k a p x ≡ Token.name w → k ≡ 25
-unfolding token-kind
-name≢ s w k a p x l e = sym (kind-is s a p x k l) ∙ ap token-kind e
-
-name-inj : {v w : List ℕ} → Token.name v ≡ Token.name w → v ≡ w
-name-inj e = cc
-
-module _ (s b e : List ℕ) (n at : ℕ) (t : TokenRead) (found : TokenAt class s at t) where
-  pub number-none : OneOf (0 ∷ 1 ∷ []) (tagOf the-type t) → NumberAt s b e n at 0
-  unfolding meant
-  number-none o = record { is = λ w ts d. absurd (go t (found .says) o w ts d) }
-    where
-      go : (t : TokenRead) → next class (rest s at) ≡ meant s t → OneOf (0 ∷ 1 ∷ []) (tagOf the-type t) → (w : List ℕ) (ts : List Token) → Tokens⊢ class (rest s at) (Token.name w ∷ ts) → ⊥
-      go TokenRead.End h o w ts d = end≢token (sym h ∙ first-token d .1)
-      go TokenRead.NoToken h o w ts d = no-token≢token (sym h ∙ first-token d .1)
-      go (TokenRead.Token k a p x) h o w ts d = miss (0 ∷ 1 ∷ []) 2 tt o
-
-  module _ (k a p x : ℕ) (h : t ≡ TokenRead.Token k a p x) (v : List ℕ) (ev : v ≡ part s a p) (r : ℕ) (er : r ≡ number-in (table-of s b e n) v) where
-    is-name : (w : List ℕ) (ts : List Token) → Tokens⊢ class (rest s at) (Token.name w ∷ ts) → v ≡ w
-    unfolding meant token-of
-    is-name w ts d = go (token-inj (sym (found .says ∙ ap (meant s) h) ∙ first-token d .1)) (spot-of t (found .on) h)
-      where
-        go : token-of s k a p x ≡ Token.name w → Spot at (length s) k a p → v ≡ w
-        go f q = ev ∙ name-inj (sym (rw (name≢ s w k a p x (q .known) f)) ∙ f)
-
-    pub number-name : NumberAt s b e n at r
-    number-name = record { is = λ w ts d. er ∙ ap (number-in (table-of s b e n)) (is-name w ts d) }
 
 -- ---- A token is kept
 

@@ -6,7 +6,7 @@ ghost use Rattle.sweep.specs.Decides.{Short};
 ghost use Rattle.table_updates.specs.Updates.{set-name-length};
 ghost use Rattle.emission.specs.Emit.{write-name-bytes, write-names};
 ghost use lib.ListN.{length};
-ghost use Rattle.emit_names.specs.Table.{NumberAt, Few, Sized, Kept, write-kept};
+ghost use Rattle.emit_names.specs.Table.{Few, Sized, Kept, write-kept};
 use token::TokenRead;
 use words::wide;
 
@@ -25,18 +25,6 @@ pub fn number_of(s: &[u8], begins: &[usize], ends: &[usize], n: u32, w: &[u8]) -
         k += 1;
     }
     n
-}
-
-// The number of the name that stands at a position.
-pub fn name_at(s: &[u8], begins: &[usize], ends: &[usize], n: u32, at: usize) -> u32
-    ensures { λ r. ⌜ NumberAt (now (s .entry)) (now (begins .entry)) (now (ends .entry)) n at r ⌝ }
-{
-    let t = token::token_at(s, at);
-    let TokenRead::Token(_k, a, p, _w) = t else {
-        return 0;
-    };
-    let w = token::token_bytes(s, a, p);
-    number_of(s, begins, ends, n, w)
 }
 
 // Keeps a token of kind k where it is a new name: how many are kept after it.
@@ -68,10 +56,11 @@ pub fn keep_names(s: &[u8], begins: &mut [usize], ends: &mut [usize]) -> u32
     requires { ⌜ Sized (now begins) (now ends) ⌝ }
     ensures { λ r. ⌜ Kept (now (s .entry)) (now (begins .exit)) (now (ends .exit)) r ⌝ }
 {
+    let classes = source::classes();
     let mut n = 0;
     let mut at = 0;
     while at < s.len() {
-        let t = token::token_at(s, at);
+        let t = token::token_in(&classes, s, at);
         let TokenRead::Token(k, a, p, _w) = t else {
             return n;
         };

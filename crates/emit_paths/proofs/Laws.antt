@@ -14,23 +14,25 @@ use lib.Seq.{drop-cons, length-take-le, getD-take, take-take}
 use native.Mathlib.Numerals.{add-one}
 use Rattle.framed.specs.Bytes.{class}
 use Rattle.framed.specs.Tokens.{Token, Fixed, Tokens⊢}
-use Rattle.framed.specs.Symbols.{Symbol}
+use Rattle.framed.specs.Symbols.{Symbol, number-in}
+use Rattle.source.specs.Positions.{part}
 use Rattle.framed.specs.Grammar.{Names⊢, Ups⊢, Path⊢}
 use Rattle.words.specs.Words.{set-word}
 use Rattle.words.proofs.Laws.{set-size}
 use Rattle.token.specs.Reading.{fixed-kind}
 use Rattle.sweep.specs.Kinds.{front-kind, kind-of}
+use Rattle.grammar.specs.Runs.{Sees}
+use Rattle.grammar.specs.declared.Seen.{Seen}
 use Rattle.names.specs.Kept.{table-of}
 use Rattle.table_updates.specs.Updates.{set-path-name}
 use Rattle.shapes.specs.Numbers.{Numbers, more-names}
 use Rattle.emission.specs.Emit.{Emitting, emitting, emit-path, write-path}
-use Rattle.emit_names.specs.Table.{NumberAt}
-use Rattle.emit_steps.specs.Steps.{numbers, one-more, go-to, take-path-name, place-of, Pass, PassTwo}
+use Rattle.emit_steps.specs.Steps.{numbers, one-more, go-to, take-path-name, place-of, PassTwo}
 use Rattle.emit_steps.specs.declared.Next.{Next}
 use Rattle.emit_steps.proofs.Laws.{more-one}
 use Rattle.emit_paths.specs.Emits.{Ahead, Small, Emitted, Emits, NamesHere, NoUp, UpsDone, UpsRead, Stays, HolderDone, PlaceOk, PathHere, UpHere, path-emitted}
 use Rattle.emit_paths.specs.declared.Levels.{Levels}
-use Rattle.emit_paths.proofs.Symbols.{cons-rest, pass-both, pass-no-up, nothing-ahead, pass-left, pass-fixed, pass-name, number-ahead}
+use Rattle.emit_paths.proofs.Symbols.{cons-rest, pass-both, pass-no-up, nothing-ahead, seen-fixed, seen-name, seen-kind, seen-number, seen-moves, number-ahead}
 
 -- what is emitted from here on is what is emitted from the start on
 pub record Leads {A : Type 0} (G : List Symbol → A → List Symbol → Type 0) (E : A → Emitting → Emitting) (s : List ℕ) (table : List (List ℕ)) (n₀ : Next) (p₀ : List ℕ) (n : Next) (p : List ℕ) (at : ℕ) : Type 0 where
@@ -64,6 +66,10 @@ room p n m ns h = go (n .paths) (length ns) (h .path-names-small)
     go : (j k : ℕ) → j + suc k < 4294967296 → j < 4294967295
     go j k l = omega arith
 
+-- the number of the bytes of a token
+pub number-part : (table : List (List ℕ)) (v w : List ℕ) → v ≡ w → (r : ℕ) → r ≡ number-in table v → r ≡ number-in table w
+number-part table v w e r h = h ∙ ap (number-in table) e
+
 module _ (s b e : List ℕ) (count : ℕ) (n₀ : Next) (p₀ : List ℕ) where
   pub dotted-start : Leads NamesHere emit-path s (table-of s b e count) n₀ p₀ n₀ p₀ (n₀ .at)
   dotted-start = record { here = refl; size = refl; back = λ p' r x. x }
@@ -81,44 +87,41 @@ module _ (s b e : List ℕ) (count : ℕ) (n₀ : Next) (p₀ : List ℕ) where
     pub dotted-end : length s ≤ at → Emits NamesHere emit-path s (table-of s b e count) n₀ p₀ p n
     dotted-end l = i .back p n (no-more n p (λ m us h. nothing-ahead s (table-of s b e count) n Fixed.dot _ (rw (i .here) at l) h))
 
-  module _ (n : Next) (p : List ℕ) (at : ℕ) (i : Leads NamesHere emit-path s (table-of s b e count) n₀ p₀ n p at) (q : ℕ) (x : Pass s at 7 q) where
+  module _ (n : Next) (p : List ℕ) (at : ℕ) (i : Leads NamesHere emit-path s (table-of s b e count) n₀ p₀ n p at) (d : Seen) (x : Sees s at d) where
     ea : at ≡ n .at
     ea = i .here
 
-    pub dotted-none : q ≤ at → Emits NamesHere emit-path s (table-of s b e count) n₀ p₀ p n
-    unfolding fixed-kind
-    dotted-none l = i .back p n (no-more n p (λ m us h. back (pass-fixed s (table-of s b e count) n q Fixed.dot _ (rw ea at x) h .further) (rw ea at l)))
-      where
-        back : n .at < q → q ≤ n .at → ⊥
-        back a b = omega arith
+    dot-here : Sees s (n .at) d
+    dot-here = rw (← ea) x
 
-    module _ (l : at < q) (u : ℕ) (y : Pass s q 25 u) where
-      pub dotted-half : u ≤ q → Emits NamesHere emit-path s (table-of s b e count) n₀ p₀ p n
-      unfolding fixed-kind
-      dotted-half k = i .back p n (no-more n p (λ m us h. back (pass-name s (table-of s b e count) (go-to n q) u m us y (pass-fixed s (table-of s b e count) n q Fixed.dot _ (rw ea at x) h .ahead) .further) k))
-        where
-          back : q < u → u ≤ q → ⊥
-          back a b = omega arith
+    pub dotted-none : (d .kind ≡ 7 → ⊥) → Emits NamesHere emit-path s (table-of s b e count) n₀ p₀ p n
+    unfolding front-kind kind-of fixed-kind
+    dotted-none other = i .back p n (no-more n p (λ m us h. other (sym (seen-kind s (table-of s b e count) n d dot-here _ h))))
 
-      module _ (lu : q < u) (k : ℕ) (z : NumberAt s b e count q k) (p' : List ℕ) (ep : p' ≡ set-path-name p (n .paths) k) where
-        on-more : (pe : List ℕ) (r : Next) → Emits NamesHere emit-path s (table-of s b e count) (take-path-name n u) p' pe r → Emits NamesHere emit-path s (table-of s b e count) n p pe r
-        unfolding fixed-kind
-        on-more pe r f = record { says = λ us vs ns h g w. go us vs ns h (g .names) (g .no-dot) w; on = omega (arith, f .on, ea, l, lu) }
+    module _ (is-dot : d .kind ≡ 7) (t : Seen) (y : Sees s (d .end) t) where
+      pub dotted-half : (t .kind ≡ 25 → ⊥) → Emits NamesHere emit-path s (table-of s b e count) n₀ p₀ p n
+      unfolding front-kind kind-of
+      dotted-half other =
+          i .back p n (no-more n p (λ m us h. other (sym (seen-kind s (table-of s b e count) (go-to n (d .end)) t y _ (seen-fixed s (table-of s b e count) n d dot-here Fixed.dot _ h .ahead)))))
+
+      pub dotted-less : at < length s → length s - t .end < length s - at
+      dotted-less l = omega (arith, seen-moves s at d x (omega arith), y .on)
+
+      module _ (is-name : t .kind ≡ 25) (k : ℕ) (z : k ≡ number-in (table-of s b e count) (part s (t .begin) (t .end))) (p' : List ℕ) (ep : p' ≡ set-path-name p (n .paths) k) where
+        on-more : (pe : List ℕ) (r : Next) → Emits NamesHere emit-path s (table-of s b e count) (take-path-name n (t .end)) p' pe r → Emits NamesHere emit-path s (table-of s b e count) n p pe r
+        on-more pe r f = record { says = λ us vs ns h g w. go us vs ns h (g .names) (g .no-dot) w; on = omega (arith, f .on, ea, x .on, y .on) }
           where
             go : (us vs : List Symbol) (ns : List ℕ) → Ahead s (table-of s b e count) n us → Names⊢ us ns vs → (front-kind vs ≡ 7 → ⊥) → Small (emit-path ns (emitting p (numbers n)) .next) →
                 Emitted s (table-of s b e count) (emit-path ns (emitting p (numbers n))) pe r vs
-            go us vs _ h Names⊢.none nd w = absurd (stays (pass-left s (table-of s b e count) n us 7 q (rw ea at x) h nd) (rw ea at l))
-              where
-                stays : q ≡ n .at → n .at < q → ⊥
-                stays a b = omega arith
-            go _ vs _ h (Names⊢.more {n = m} {ns = ns} {ts = ts} d) nd w =
-                let h₁ = pass-fixed s (table-of s b e count) n q Fixed.dot _ (rw ea at x) h .ahead in
-                let h₂ = pass-name s (table-of s b e count) (go-to n q) u m ts y h₁ .ahead in
-                let em : k ≡ m = number-ahead s b e count (go-to n q) m k ts z h₁ in
-                let same : emit-path (m ∷ ns) (emitting p (numbers n)) ≡ emit-path ns (emitting p' (numbers (take-path-name n u))) = emit-one p n m u ns (room p n m ns w) ∙ rw (ep, em) in
-                rw same (f .says ts vs ns (record { tokens = h₂ .tokens; reads = h₂ .reads; are = h₂ .are; few = h₂ .few }) (record { names = d; no-dot = nd }) (rw same at w))
+            go us vs _ h Names⊢.none nd w = absurd (nd (seen-kind s (table-of s b e count) n d dot-here us h ∙ is-dot))
+            go _ vs _ h (Names⊢.more {n = m} {ns = ns} {ts = ts} g) nd w =
+                let h₁ = seen-fixed s (table-of s b e count) n d dot-here Fixed.dot _ h .ahead in
+                let h₂ = seen-name s (table-of s b e count) (go-to n (d .end)) t y m ts h₁ .ahead in
+                let em : k ≡ m = number-ahead s b e count (go-to n (d .end)) m k ts (seen-number s b e count (d .end) t y k z) h₁ in
+                let same : emit-path (m ∷ ns) (emitting p (numbers n)) ≡ emit-path ns (emitting p' (numbers (take-path-name n (t .end)))) = emit-one p n m (t .end) ns (room p n m ns w) ∙ rw (ep, em) in
+                rw same (f .says ts vs ns (record { tokens = h₂ .tokens; reads = h₂ .reads; are = h₂ .are; few = h₂ .few }) (record { names = g; no-dot = nd }) (rw same at w))
 
-        pub dotted-again : (n' : Next) → n' ≡ take-path-name n u → Leads NamesHere emit-path s (table-of s b e count) n₀ p₀ n' p' u
+        pub dotted-again : (n' : Next) → n' ≡ take-path-name n (t .end) → Leads NamesHere emit-path s (table-of s b e count) n₀ p₀ n' p' (t .end)
         unfolding set-path-name
         dotted-again n' en = rw en (record { here = refl; size = ap length ep ∙ set-size p _ _ ∙ i .size; back = λ pe r f. i .back pe r (on-more pe r f) })
 
@@ -268,7 +271,7 @@ no-up-after _ vs _ (Names⊢.more d) f = record { no-up = λ x ws e g h. absurd 
     other : _≡_ {A = ℕ} 25 8 → ⊥
     other e = omega arith
 
-module _ (s b e : List ℕ) (count : ℕ) (place : Place) (n : Next) (p : List ℕ) (q : ℕ) (x : Pass s (n .at) 8 q) (u : Levels) (y : UpsRead s q (place .depth) u)
+module _ (s b e : List ℕ) (count : ℕ) (place : Place) (n : Next) (p : List ℕ) (t : Seen) (x : Sees s (n .at) t) (u : Levels) (y : UpsRead s (t .end) (place .depth) u)
     (k : Next) (ek : k ≡ go-to n (u .at)) (p₁ : List ℕ) (m : Next) (z : HolderDone (place .names) (u .levels) k p p₁ m) (p' : List ℕ) (r : Next)
     (f : Emits NamesHere emit-path s (table-of s b e count) m p₁ p' r) where
   up-says : (us vs : List Symbol) (w : Written) → Ahead s (table-of s b e count) n us → Path⊢ us w vs → (front-kind vs ≡ 7 → ⊥) → PlaceOk place → (front-kind us ≡ 1 → ⊥) →
@@ -276,14 +279,14 @@ module _ (s b e : List ℕ) (count : ℕ) (place : Place) (n : Next) (p : List �
   unfolding fixed-kind front-kind kind-of path-emitted
   up-says _ vs _ h (Path⊢.self d) nd ok ns l = absurd (ns refl)
   up-says _ vs _ h (Path⊢.up {k = j} {ns = ns} {ts = ts} {us = us} d g) nd ok ne l =
-      let h₁ = pass-fixed s (table-of s b e count) n q Fixed.up ts x h .ahead in
-      let a = y .says (table-of s b e count) (go-to n q) ts us j refl h₁ d (no-up-after us vs ns g nd) in
+      let h₁ = seen-fixed s (table-of s b e count) n t x Fixed.up ts h .ahead in
+      let a = y .says (table-of s b e count) (go-to n (t .end)) ts us j refl h₁ d (no-up-after us vs ns g nd) in
       let first = take (u .levels) (place .names) in
-      let t = emitting p (numbers n) in
-      let same : emit-path (names-of (resolve-path (place-of place) (Written.up j ns))) t ≡ emit-path ns (emit-path first t) =
-      ap (λ (ms : List ℕ). emit-path ms t) (up-names place ok j ns ∙ rw (a .levels-are)) ∙ emit-append first ns t in
+      let t₀ = emitting p (numbers n) in
+      let same : emit-path (names-of (resolve-path (place-of place) (Written.up j ns))) t₀ ≡ emit-path ns (emit-path first t₀) =
+      ap (λ (ms : List ℕ). emit-path ms t₀) (up-names place ok j ns ∙ rw (a .levels-are)) ∙ emit-append first ns t₀ in
       let l₁ = rw same at l in
-      let held : emitting p₁ (numbers m) ≡ emit-path first t = rw ek at (z .is (omega (arith, a .levels-are, ok .deep)) (ok .sixteen) (rw ek (small-first first ns t l₁))) in
+      let held : emitting p₁ (numbers m) ≡ emit-path first t₀ = rw ek at (z .is (omega (arith, a .levels-are, ok .deep)) (ok .sixteen) (rw ek (small-first first ns t₀ l₁))) in
       rw (same, ← held) (f .says us vs ns (rest-ahead us (a .ahead)) (record { names = g; no-dot = nd }) (rw held l₁))
     where
       rest-ahead : (us : List Symbol) → Ahead s (table-of s b e count) (go-to n (u .at)) us → Ahead s (table-of s b e count) m us
@@ -302,35 +305,24 @@ module _ (s b e : List ℕ) (count : ℕ) (place : Place) (n : Next) (p : List �
 
 -- ---- A path
 
-module _ (s b e : List ℕ) (count : ℕ) (place : Place) (n : Next) (p : List ℕ) (q : ℕ) (x : Pass s (n .at) 1 q) where
-  pub path-up : q ≤ n .at → (p' : List ℕ) (r : Next) → Emits (UpHere place) (path-emitted place) s (table-of s b e count) n p p' r → Emits (PathHere place) (path-emitted place) s (table-of s b e count) n p p' r
-  unfolding fixed-kind front-kind kind-of
-  path-up l p' r f = record { says = λ us vs w h g a. f .says us vs w h (record { here = g; not-self = other us vs w h (g .path) }) a; on = f .on }
-    where
-      back : n .at < q → ⊥
-      back a = omega arith
+module _ (s b e : List ℕ) (count : ℕ) (place : Place) (n : Next) (p : List ℕ) (t : Seen) (x : Sees s (n .at) t) where
+  eight : _≡_ {A = ℕ} 8 1 → ⊥
+  eight a = omega arith
 
-      eight : _≡_ {A = ℕ} 8 1 → ⊥
-      eight a = omega arith
-
-      other : (us vs : List Symbol) (w : Written) → Ahead s (table-of s b e count) n us → Path⊢ us w vs → front-kind us ≡ 1 → ⊥
-      other _ vs _ h (Path⊢.self {ts = ts} d) a = back (pass-fixed s (table-of s b e count) n q Fixed.self ts x h .further)
-      other _ vs _ h (Path⊢.up d g) a = eight a
-
-  module _ (l : n .at < q) (m : Next) (em : m ≡ go-to n q) (p' : List ℕ) (r : Next) (f : Emits NamesHere emit-path s (table-of s b e count) m p p' r) where
+  module _ (k : t .kind ≡ 1) (m : Next) (em : m ≡ go-to n (t .end)) (p' : List ℕ) (r : Next) (f : Emits NamesHere emit-path s (table-of s b e count) m p p' r) where
     self-says : (us vs : List Symbol) (w : Written) → Ahead s (table-of s b e count) n us → Path⊢ us w vs → (front-kind vs ≡ 7 → ⊥) →
         Small (path-emitted place w (emitting p (numbers n)) .next) → Emitted s (table-of s b e count) (path-emitted place w (emitting p (numbers n))) p' r vs
     unfolding fixed-kind front-kind kind-of path-emitted names-of resolve-path
     self-says _ vs _ h (Path⊢.self {ns = ns} {ts = ts} d) nd a =
         let g = rw em at f in
-        g .says ts vs ns (pass-fixed s (table-of s b e count) n q Fixed.self ts x h .ahead) (record { names = d; no-dot = nd }) a
-    self-says us vs _ h (Path⊢.up d g) nd a = absurd (stays (pass-left s (table-of s b e count) n us 1 q x h eight))
-      where
-        stays : q ≡ n .at → ⊥
-        stays b = omega arith
-
-        eight : _≡_ {A = ℕ} 8 1 → ⊥
-        eight a = omega arith
+        g .says ts vs ns (seen-fixed s (table-of s b e count) n t x Fixed.self ts h .ahead) (record { names = d; no-dot = nd }) a
+    self-says us vs _ h (Path⊢.up d g) nd a = absurd (eight (seen-kind s (table-of s b e count) n t x us h ∙ k))
 
     pub path-self : Emits (PathHere place) (path-emitted place) s (table-of s b e count) n p p' r
-    path-self = record { says = λ us vs w h g a. self-says us vs w h (g .path) (g .no-dot) a; on = omega (arith, l, f .on, ap (λ (a : Next). a .at) em) }
+    path-self = record { says = λ us vs w h g a. self-says us vs w h (g .path) (g .no-dot) a; on = omega (arith, x .on, f .on, ap (λ (a : Next). a .at) em) }
+
+  pub path-up : (t .kind ≡ 1 → ⊥) → (p' : List ℕ) (r : Next) → Emits (UpHere place) (path-emitted place) s (table-of s b e count) n p p' r → Emits (PathHere place) (path-emitted place) s (table-of s b e count) n p p' r
+  path-up k p' r f = record {
+    says = λ us vs w h g a. f .says us vs w h (record { here = g; not-self = λ i. k (sym (seen-kind s (table-of s b e count) n t x us h) ∙ i) }) a;
+    on = f .on;
+  }

@@ -13,9 +13,13 @@ use Rattle.framed.proofs.TokensExact.{end≢token}
 use Rattle.source.proofs.Positions.{rest-end}
 use Rattle.emit_steps.proofs.Laws.{first-token}
 use Rattle.framed.specs.Symbols.{Symbol, numbered, number-in}
-use Rattle.source.specs.Positions.{rest}
+use Rattle.source.specs.Positions.{rest, part}
 use Rattle.token.specs.Reading.{fixed-kind, token-kind}
 use Rattle.sweep.specs.Kinds.{kind-of, front-kind}
+use Rattle.grammar.specs.Runs.{Sees}
+use Rattle.grammar.specs.declared.Found.{Found}
+use Rattle.grammar.specs.declared.Seen.{Seen}
+use Rattle.grammar.proofs.Paths.{moved}
 use Rattle.names.specs.Kept.{table-of}
 use Rattle.emit_names.specs.Table.{NumberAt}
 use Rattle.emit_steps.specs.Steps.{first-kind, Past, Pass, PassTwo, go-to}
@@ -96,11 +100,50 @@ module _ (s : List ℕ) (table : List (List ℕ)) (n : Next) (q : ℕ) where
       let y = fixed-first table (n .strings) (n .codes) (h .tokens) f us (h .are) in
       step-on (fixed-kind f) x us (Token.fixed f) (h .tokens) (y .0) (y .1) (h .reads) (h .few) refl (y .2)
 
-  pub pass-name : (m : ℕ) (us : List Symbol) → Pass s (n .at) 25 q → Ahead s table n (Symbol.name m ∷ us) → Stepped s table n q us
-  unfolding token-kind
-  pass-name m us x h =
+-- a step over the token that was seen
+module _ (s : List ℕ) (table : List (List ℕ)) (n : Next) (t : Seen) (x : Sees s (n .at) t) where
+  over : (us : List Symbol) (u : Token) (ts ts' : List Token) → ts ≡ u ∷ ts' → Tokens⊢ class (rest s (n .at)) ts → n .strings + length ts < 4294967295 →
+      us ≡ numbered table (n .strings) (n .codes) ts' → Stepped s table n (t .end) us
+  over us u ts ts' et d l f =
+      let d' = rw et at d in
+      record { further = x .further u ts' d'; ahead = record { tokens = ts'; reads = x .reads u ts' d'; are = f; few = less (rw et at l) } }
+    where
+      less : n .strings + suc (length ts') < 4294967295 → n .strings + length ts' < 4294967295
+      less l = omega arith
+
+  pub seen-fixed : (f : Fixed) (us : List Symbol) → Ahead s table n (Symbol.fixed f ∷ us) → Stepped s table n (t .end) us
+  seen-fixed f us h =
+      let y = fixed-first table (n .strings) (n .codes) (h .tokens) f us (h .are) in
+      over us (Token.fixed f) (h .tokens) (y .0) (y .1) (h .reads) (h .few) (y .2)
+
+  pub seen-name : (m : ℕ) (us : List Symbol) → Ahead s table n (Symbol.name m ∷ us) → Stepped s table n (t .end) us
+  seen-name m us h =
       let y = name-first table (n .strings) (n .codes) (h .tokens) m us (h .are) in
-      step-on 25 x us (Token.name (y .0)) (h .tokens) (y .1) (y .2) (h .reads) (h .few) refl (y .4)
+      over us (Token.name (y .0)) (h .tokens) (y .1) (y .2) (h .reads) (h .few) (y .4)
+
+  -- the kind of what is ahead
+  pub seen-kind : (us : List Symbol) → Ahead s table n us → front-kind us ≡ t .kind
+  seen-kind us h = ap front-kind (h .are) ∙ x .kind-is .is table (n .strings) (n .codes) (h .tokens) (h .reads)
+
+-- the number of the name that was seen
+pub seen-number : (s b e : List ℕ) (count at : ℕ) (t : Seen) → Sees s at t → (r : ℕ) → r ≡ number-in (table-of s b e count) (part s (t .begin) (t .end)) → NumberAt s b e count at r
+seen-number s b e count at t x r er = record { is = λ w ts d. er ∙ ap (number-in (table-of s b e count)) (x .name-is w ts d) }
+
+-- it and the token after it
+pub seen-two : (s : List ℕ) (at : ℕ) (t : Seen) → Sees s at t → (j : ℕ) → t .kind ≡ j → (k q : ℕ) → Pass s (t .end) k q → t .end < q → PassTwo s at j k q
+seen-two s at t x j e k q y l = record {
+  taken = λ u v ts d a b. let z = y .taken v ts (x .reads u (v ∷ ts) d) b in record { further = omega (arith, x .on, l); reads = z .reads };
+  left = λ ts d f. absurd (f (sym (kinds-same [] 0 0 ts) ∙ x .kind-is .is [] 0 0 ts d ∙ e));
+  half = λ u ts d a f. absurd (stays (y .left ts (x .reads u ts d) f));
+  on = omega (arith, x .on, l);
+}
+  where
+    stays : q ≡ t .end → ⊥
+    stays a = omega arith
+
+-- a token of some kind moves the position on
+pub seen-moves : (s : List ℕ) (at : ℕ) (t : Seen) → Sees s at t → t .kind < 29 → at < t .end
+seen-moves s at t x l = moved (Found.Done (t .end)) (x .end-is (t .kind) (t .kind) (omega arith) (omega arith) l .on) refl .0
 
 -- the number of the name ahead
 pub number-ahead : (s b e : List ℕ) (count : ℕ) (n : Next) (m r : ℕ) (us : List Symbol) → NumberAt s b e count (n .at) r → Ahead s (table-of s b e count) n (Symbol.name m ∷ us) → r ≡ m

@@ -1,10 +1,23 @@
 // The path names of a path of the source, resolved, written into program words.
+ghost use mathlib.Core.Path.{_≡_};
+ghost use Rattle.framed.specs.Symbols.{number-in};
+ghost use Rattle.source.specs.Positions.{part};
 ghost use Rattle.names.specs.Kept.{table-of};
 ghost use Rattle.emission.specs.Emit.{emit-path};
+ghost use Rattle.grammar.specs.Runs.{Sees};
 ghost use Rattle.emit_paths.specs.Emits.{Emits, NamesHere, UpsRead, HolderDone, UpHere, PathHere, path-emitted};
 use emit_steps::Next;
 use emit_steps::Place;
+use grammar::Seen;
 use words::wide;
+
+// The number of the name that t is.
+pub fn name_number(s: &[u8], begins: &[usize], ends: &[usize], count: u32, t: Seen) -> u32
+    ensures { λ r. ⌜ r ≡ number-in (table-of (now (s .entry)) (now (begins .entry)) (now (ends .entry)) count) (part (now (s .entry)) (t .begin) (t .end)) ⌝ }
+{
+    let w = token::token_bytes(s, t.begin, t.end);
+    emit_names::number_of(s, begins, ends, count, w)
+}
 
 // The names after dots, as path names.
 pub fn dotted(
@@ -20,18 +33,18 @@ pub fn dotted(
     let mut m = n;
     let mut at = n.at;
     while at < s.len() {
-        let q = emit_steps::pass(s, at, 7);
-        if q <= at {
+        let d = grammar::look(s, at);
+        if d.kind != 7 {
             return m;
         }
-        let u = emit_steps::pass(s, q, 25);
-        if u <= q {
+        let t = grammar::look(s, d.end);
+        if t.kind != 25 {
             return m;
         }
-        let k = emit_names::name_at(s, begins, ends, count, q);
+        let k = name_number(s, begins, ends, count, t);
         table_updates::set_path_name(p, m.paths, k);
-        m = emit_steps::one_path_name(m, u);
-        at = u;
+        m = emit_steps::one_path_name(m, t.end);
+        at = t.end;
     }
     m
 }
@@ -80,7 +93,7 @@ pub fn holder(p: &mut [u32], place: Place, levels: u32, n: Next) -> Next
     m
 }
 
-// A path that begins with `^`, resolved.
+// A path that begins with `^`, resolved; its first token is t.
 fn up_path(
     s: &[u8],
     begins: &[usize],
@@ -89,17 +102,18 @@ fn up_path(
     p: &mut [u32],
     place: Place,
     n: Next,
+    t: Seen,
 ) -> Next
+    requires { ⌜ Sees (now s) (n .at) t ⌝ }
     ensures { λ r. ⌜ Emits (UpHere place) (path-emitted place) (now (s .entry)) (table-of (now (s .entry)) (now (begins .entry)) (now (ends .entry)) count) n (now (p .entry)) (now (p .exit)) r ⌝ }
 {
-    let q = emit_steps::pass(s, n.at, 8);
-    let u = ups(s, q, place.depth);
+    let u = ups(s, t.end, place.depth);
     let k = emit_steps::go_to(n, u.at);
     let m = holder(p, place, u.levels, k);
     dotted(s, begins, ends, count, p, m)
 }
 
-// A path, resolved.
+// A path, resolved; its first token is t.
 pub fn emit_path(
     s: &[u8],
     begins: &[usize],
@@ -108,13 +122,14 @@ pub fn emit_path(
     p: &mut [u32],
     place: Place,
     n: Next,
+    t: Seen,
 ) -> Next
+    requires { ⌜ Sees (now s) (n .at) t ⌝ }
     ensures { λ r. ⌜ Emits (PathHere place) (path-emitted place) (now (s .entry)) (table-of (now (s .entry)) (now (begins .entry)) (now (ends .entry)) count) n (now (p .entry)) (now (p .exit)) r ⌝ }
 {
-    let q = emit_steps::pass(s, n.at, 1);
-    if q <= n.at {
-        return up_path(s, begins, ends, count, p, place, n);
+    if t.kind == 1 {
+        let m = emit_steps::go_to(n, t.end);
+        return dotted(s, begins, ends, count, p, m);
     }
-    let m = emit_steps::go_to(n, q);
-    dotted(s, begins, ends, count, p, m)
+    up_path(s, begins, ends, count, p, place, n, t)
 }

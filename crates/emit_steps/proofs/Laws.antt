@@ -18,6 +18,7 @@ use Rattle.token.specs.Reading.{token-of, token-kind, meant, TokenAt, Spot}
 use Rattle.token.specs.declared.TokenRead.{TokenRead}
 use Rattle.token.proofs.TokenRead.{the-type}
 use Rattle.token.proofs.KindNumbers.{kind-is}
+use Rattle.token.proofs.Unique.{token-inj}
 use Rattle.token.proofs.Answers.{spot-of}
 use Rattle.emit_steps.specs.declared.Next.{Next}
 use Rattle.emit_steps.specs.declared.Place.{Place}
@@ -34,9 +35,6 @@ unfolding one-more
 more-none n l = rw (le-ltb n 4294967295 l)
 
 -- ---- One token
-
-pub token-inj : {t u : Token} {r q : List ℕ} → token t r ≡ token u q → t ≡ u
-token-inj e = cc
 
 pub first-token : {bs : List ℕ} {t : Token} {ts : List Token} → Tokens⊢ class bs (t ∷ ts) → (q : List ℕ) × (next class bs ≡ token t q) × Tokens⊢ class q ts
 first-token (Tokens⊢.more {rest = q} e d) = (q, e, d)

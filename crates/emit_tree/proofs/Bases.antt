@@ -16,15 +16,17 @@ use Rattle.framed.specs.Paths as Paths
 use Rattle.token.specs.Reading.{fixed-kind}
 use Rattle.token.specs.Reading as Reading
 use Rattle.sweep.specs.Kinds.{kind-of, front-kind}
-use Rattle.grammar.specs.Runs.{KindAt}
+use Rattle.grammar.specs.Runs.{KindAt, Sees}
+use Rattle.grammar.specs.declared.Seen.{Seen}
 use Rattle.tables.specs.declared.ExpressionEntry.{ExpressionEntry}
 use Rattle.table_updates.specs.Updates.{set-expression}
 use Rattle.shapes.specs.Numbers.{one-expression}
 use Rattle.emission.specs.Emit.{Emitting, emitting, emit-base, emit-expression, emit-code}
-use Rattle.emit_steps.specs.Steps.{numbers, take-expression, place-of, inner-code}
+use Rattle.emit_steps.specs.Steps.{numbers, go-to, take-expression, take-instruction, place-of, inner-code}
 use Rattle.emit_steps.specs.declared.Next.{Next}
 use Rattle.emit_steps.specs.declared.Place.{Place}
 use Rattle.emit_paths.specs.Emits.{Ahead, Small, Emitted, Emits, PlaceOk, PathHere}
+use Rattle.emit_paths.proofs.Symbols.{seen-fixed}
 use Rattle.emit_bases.specs.Bases.{path-base}
 use Rattle.emit_leaves.specs.Parts.{EmitsAny, IntegerHere, StringHere, OperatorHere, integer-emitted, string-emitted, operator-emitted, is-operator, OperatorAfter, Skipped, BlockOpened, FrameOpened}
 use Rattle.emit_leaves.proofs.Numbers.{base-before, expression-before, expression-next, one-expression-small}
@@ -45,6 +47,30 @@ operand-falls s n m em t e = omega (arith, ap (λ (a : Next). a .at) em)
 
 pub right-falls : (s : List ℕ) (n m : Next) → m ≡ take-expression n (n .at) → (t : ℕ) → 16 * (length s - n .at) + 5 ≡ t → 16 * (length s - m .at) + 4 < t
 right-falls s n m em t e = omega (arith, ap (λ (a : Next). a .at) em)
+
+pub binary-falls : (s : List ℕ) (n m : Next) → m ≡ take-expression n (n .at) → (t : ℕ) → 16 * (length s - n .at) + 3 ≡ t → 16 * (length s - m .at) + 1 < t
+binary-falls s n m em t e = omega (arith, ap (λ (a : Next). a .at) em)
+
+pub binary-falls-2 : (s : List ℕ) (n m : Next) → m ≡ take-expression n (n .at) → (a b : ℕ) → m .at ≤ a → a ≤ b → (t : ℕ) → 16 * (length s - n .at) + 3 ≡ t → 16 * (length s - b) + 2 < t
+binary-falls-2 s n m em a b h i t e = omega (arith, ap (λ (u : Next). u .at) em)
+
+module _ (s : List ℕ) (n : Next) (q : Seen) (x : Sees s (n .at) q) (m : Next) (em : m ≡ go-to n (q .end)) where
+  pub first-falls : (t : ℕ) → 16 * (length s - n .at) + 3 ≡ t → 16 * (length s - m .at) + 2 < t
+  first-falls t e = omega (arith, x .on, ap (λ (a : Next). a .at) em)
+
+  pub second-falls : (a : ℕ) → m .at ≤ a → (t : ℕ) → 16 * (length s - n .at) + 3 ≡ t → 16 * (length s - a) + 2 < t
+  second-falls a h t e = omega (arith, first-falls t e)
+
+  pub third-falls : (a b : ℕ) → m .at ≤ a → a ≤ b → (t : ℕ) → 16 * (length s - n .at) + 3 ≡ t → 16 * (length s - b) + 2 < t
+  third-falls a b h i t e = omega (arith, first-falls t e)
+
+-- ---- What was seen stands there still when a number is taken
+
+pub seen-expression : (s : List ℕ) (n : Next) (t : Seen) → Sees s (n .at) t → (m : Next) → m ≡ take-expression n (n .at) → Sees s (m .at) t
+seen-expression s n t x m em = rw em x
+
+pub seen-instruction : (s : List ℕ) (n : Next) (t : Seen) → Sees s (n .at) t → (m : Next) → m ≡ take-instruction n → Sees s (m .at) t
+seen-instruction s n t x m em = rw em x
 
 -- ---- Brackets
 
@@ -178,17 +204,20 @@ pub carry : (s : List ℕ) (table : List (List ℕ)) (E : Emitting → Emitting)
     (Small (E u .next) → Emitted s table (E u) p' r vs) → Small (E t .next) → Emitted s table (E t) p' r vs
 carry s table E t u e p' r vs f l = subst (λ (a : Emitting). Emitted s table (E a) p' r vs) (sym e) (f (subst (λ (a : Emitting). Small (E a .next)) e l))
 
--- after one symbol
-module _ (s : List ℕ) (table : List (List ℕ)) (n m : Next) (f : Fixed) (z : Skipped s n (fixed-kind f) m) (p : List ℕ) where
-  pub after-skip : (us : List Symbol) → Ahead s table n (Symbol.fixed f ∷ us) → Ahead s table m us
-  after-skip us h = skipped-ahead s table n m (fixed-kind f) us z (skip-fixed s table n m f us z h .ahead)
+-- after one symbol, whose token was seen
+module _ (s : List ℕ) (table : List (List ℕ)) (n : Next) (t : Seen) (x : Sees s (n .at) t) (m : Next) (em : m ≡ go-to n (t .end)) where
+  pub after-seen : (f : Fixed) (us : List Symbol) → Ahead s table n (Symbol.fixed f ∷ us) → Ahead s table m us
+  after-seen f us h = rw em (seen-fixed s table n t x f us h .ahead)
 
-  pub same-start : emitting p (numbers n) ≡ emitting p (numbers m)
-  same-start = ap (λ (a : Next). emitting p (numbers a)) (sym (z .same))
+  pub same-start : (p : List ℕ) → emitting p (numbers n) ≡ emitting p (numbers m)
+  same-start p = ap (λ (a : Next). emitting p (numbers a)) (sym em)
+
+  pub seen-on : n .at ≤ m .at
+  seen-on = omega (arith, x .on, ap (λ (a : Next). a .at) em)
 
 -- ---- `!` base
 
-module _ (s : List ℕ) (table : List (List ℕ)) (place : Place) (x : ℕ) (n : Next) (p : List ℕ) (m : Next) (z : Skipped s n 9 m) (p₁ : List ℕ)
+module _ (s : List ℕ) (table : List (List ℕ)) (place : Place) (x : ℕ) (n : Next) (p : List ℕ) (t : Seen) (z : Sees s (n .at) t) (m : Next) (em : m ≡ go-to n (t .end)) (p₁ : List ℕ)
     (e₁ : p₁ ≡ set-expression p x (ExpressionEntry.Not (m .expressions))) (p' : List ℕ) (r : Next) (f : Emits (BaseHere place) (operand-emitted place) s table m p₁ p' r) where
   not-entry : Emitting → Emitting
   not-entry t = emitting (set-expression (t .words) x (ExpressionEntry.Not (t .next .expressions))) (t .next)
@@ -198,11 +227,11 @@ module _ (s : List ℕ) (table : List (List ℕ)) (place : Place) (x : ℕ) (n :
   unfolding expression-emitted operand-emitted resolve-expression emit-expression fixed-kind not-entry
   negation-says _ vs _ h (NegationHere.negation {b = b} {ts = ts} g) l =
       carry s table (operand-emitted place b) (not-entry (emitting p (numbers n))) (emitting p₁ (numbers m))
-      (ap not-entry (same-start s table n m Fixed.bang z p) ∙ ap (λ (w : List ℕ). emitting w (numbers m)) (sym e₁)) p' r vs
-      (f .says ts vs b (after-skip s table n m Fixed.bang z p ts h) g) l
+      (ap not-entry (same-start s table n t z m em p) ∙ ap (λ (w : List ℕ). emitting w (numbers m)) (sym e₁)) p' r vs
+      (f .says ts vs b (after-seen s table n t z m em Fixed.bang ts h) g) l
 
   pub negation-done : Emits (NegationHere place) (expression-emitted place place x) s table n p p' r
-  negation-done = record { says = negation-says; on = omega (arith, z .pass .on, f .on) }
+  negation-done = record { says = negation-says; on = omega (arith, seen-on s table n t z m em, f .on) }
 
 -- ---- base operator base
 
@@ -218,7 +247,8 @@ not-dot Operator.equal e = absurd (omega arith)
 not-dot Operator.and e = absurd (omega arith)
 not-dot Operator.or e = absurd (omega arith)
 
-module _ (s : List ℕ) (table : List (List ℕ)) (place : Place) (x : ℕ) (n : Next) (p p₁ : List ℕ) (u : Next) (f : Emits (BaseHere place) (operand-emitted place) s table n p p₁ u)
+module _ (s : List ℕ) (table : List (List ℕ)) (place : Place) (x : ℕ) (n : Next) (p : List ℕ) (m : Next) (em : m ≡ take-expression n (n .at)) (p₁ : List ℕ) (u : Next)
+    (f : Emits (BaseHere place) (base-emitted place (n .expressions)) s table m p p₁ u)
     (p₂ : List ℕ) (v : Next) (o : EmitsAny OperatorHere (operator-emitted x (n .expressions)) s u p₁ p₂ v) (p' : List ℕ) (r : Next)
     (g : Emits (BaseHere place) (operand-emitted place) s table v p₂ p' r) where
   binary-says : (us vs : List Symbol) (e : Expression Written) → Ahead s table n us → BinaryHere place us e vs → Small (expression-emitted place place x e (emitting p (numbers n)) .next) →
@@ -227,13 +257,13 @@ module _ (s : List ℕ) (table : List (List ℕ)) (place : Place) (x : ℕ) (n :
   binary-says us vs _ h (BinaryHere.binary {o = j} {a = a} {b = b} {us = ws} ha hb) l =
       let t = operand-emitted place a (emitting p (numbers n)) in
       let l₁ = operand-before place b (operator-emitted x (n .expressions) j t) l in
-      let first = f .says us _ a h ha l₁ in
+      let first = operand-done s table place n p m em p₁ u f .says us _ a h ha l₁ in
       let second = o .by table .says _ ws j (first .ahead) OperatorHere.here (subst (λ (a : Emitting). Small (a .next)) (sym (first .is)) l₁) in
       carry s table (operand-emitted place b) (operator-emitted x (n .expressions) j t) (emitting p₂ (numbers v)) (ap (operator-emitted x (n .expressions) j) (sym (first .is)) ∙ sym (second .is)) p' r vs
       (g .says ws vs b (second .ahead) hb) l
 
   pub binary-done : Emits (BinaryHere place) (expression-emitted place place x) s table n p p' r
-  binary-done = record { says = binary-says; on = omega (arith, f .on, o .on, g .on) }
+  binary-done = record { says = binary-says; on = omega (arith, f .on, o .on, g .on, ap (λ (t : Next). t .at) em) }
 
 -- ---- `frame` `:` `[` slots `]`
 

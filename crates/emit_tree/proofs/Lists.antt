@@ -15,25 +15,27 @@ use Rattle.source.specs.Positions.{rest}
 use Rattle.source.proofs.Positions.{rest-end}
 use Rattle.token.specs.Reading.{fixed-kind, token-kind}
 use Rattle.sweep.specs.Kinds.{kind-of, front-kind}
-use Rattle.grammar.specs.Runs.{KindAt}
+use Rattle.grammar.specs.Runs.{KindAt, Sees}
+use Rattle.grammar.specs.declared.Seen.{Seen}
 use Rattle.names.specs.Kept.{table-of}
 use Rattle.tables.specs.declared.InstructionEntry.{InstructionEntry}
 use Rattle.table_updates.specs.Updates.{set-slot-name, set-slot-link, set-instruction, set-instruction-link}
 use Rattle.shapes.specs.Numbers.{one-expression, one-instruction}
 use Rattle.emission.specs.Emit.{Emitting, emitting, emit-expression, emit-slots, emit-instruction, emit-code, link-to-slots, link-to-code}
-use Rattle.emit_steps.specs.Steps.{numbers, go-to, take-instruction, place-of, inner-slot, first-kind, PassTwo}
+use Rattle.emit_steps.specs.Steps.{numbers, go-to, take-instruction, place-of, inner-slot, first-kind, Pass, PassTwo}
 use Rattle.emit_steps.specs.declared.Next.{Next}
 use Rattle.emit_steps.specs.declared.Place.{Place}
 use Rattle.emit_steps.proofs.Laws.{first-token}
 use Rattle.emit_paths.specs.Emits.{Ahead, Small, Emitted, Emits}
-use Rattle.emit_paths.proofs.Symbols.{past-end, fixed-first, name-first, number-ahead, kind-ahead}
-use Rattle.emit_leaves.specs.Parts.{Skipped, TargetHere, target-emitted, SlotNamed, SlotClosed, LineClosed}
+use Rattle.emit_paths.proofs.Symbols.{past-end, fixed-first, name-first, pass-fixed, seen-name, seen-kind, seen-two, number-ahead, kind-ahead}
+use Rattle.emit_leaves.specs.declared.Stand.{Stand}
+use Rattle.emit_leaves.specs.Parts.{TargetHere, target-emitted, Stands, SlotNamed, SlotClosed, LineClosed}
 use Rattle.emit_leaves.proofs.Numbers.{expression-before, slots-before, instruction-before, code-before, instruction-next, one-expression-small}
 use Rattle.emit_leaves.proofs.Ahead.{kind-here, ahead-same, instruction-kind}
 use Rattle.emit_tree.specs.Members.{operand-emitted, right-emitted, slots-emitted, instruction-emitted, code-emitted, slot-emitted, line-emitted, expression-deep, slots-deep, Room, Inside}
 use Rattle.emit_tree.specs.Members.{BaseHere, Ends, FrameRoom, ExpressionHere, SlotsHere, SlotDone, SlotEmits, InstructionHere, ShowHere, JumpHere, IfeqHere, AssignHere, CodeHere, LineDone, LineEmits}
 use Rattle.emit_tree.proofs.Places.{inside-room, inner-same, inner-room, slot-rooms, not-base}
-use Rattle.emit_tree.proofs.Bases.{operand-before, carry, after-skip, same-start}
+use Rattle.emit_tree.proofs.Bases.{operand-before, carry, after-seen, same-start, seen-on}
 
 -- ---- What stands at a position
 
@@ -55,8 +57,9 @@ ends-at vs k e n l = record { no-dot = λ f. n (sym e ∙ f); no-operator = λ a
 
 -- ---- Loops
 
--- what is emitted from here on is what is emitted from the start on
-pub record Going {A : Type 0} (G : List Symbol → A → List Symbol → Type 0) (E : A → Emitting → Emitting) (s : List ℕ) (table : List (List ℕ)) (n₀ : Next) (p₀ : List ℕ) (n : Next) (p : List ℕ) : Type 0 where
+-- what is emitted from here on is what is emitted from the start on; the token here was seen
+pub record Going {A : Type 0} (G : List Symbol → A → List Symbol → Type 0) (E : A → Emitting → Emitting) (s : List ℕ) (table : List (List ℕ)) (n₀ : Next) (p₀ : List ℕ) (n : Next) (p : List ℕ) (t : Seen) : Type 0 where
+  pub seen : Sees s (n .at) t
   pub on : n₀ .at ≤ n .at
   pub size : length p ≡ length p₀
   pub back : (p' : List ℕ) (r : Next) → Emits G E s table n p p' r → Emits G E s table n₀ p₀ p' r
@@ -65,7 +68,7 @@ pub record Going {A : Type 0} (G : List Symbol → A → List Symbol → Type 0)
 
 module _ (s b e : List ℕ) (count : ℕ) (place : Place) (n : Next) (q : ℕ) (p : List ℕ) (k : ℕ) (p₁ : List ℕ) (z : SlotNamed s b e count n p p₁ k)
     (inner : Place) (ei : inner ≡ inner-slot place k) (m : Next) (em : m ≡ go-to n q) (p₂ : List ℕ) (u : Next)
-    (f : Emits (ExpressionHere place inner) (right-emitted place inner) s (table-of s b e count) m p₁ p₂ u) (p' : List ℕ) (r : Next) (c : SlotClosed s (n .expressions) u p₂ p' r) where
+    (f : Emits (ExpressionHere place inner) (right-emitted place inner) s (table-of s b e count) m p₁ p₂ u) (p' : List ℕ) (stop : Stand) (c : Stands s (SlotClosed s (n .expressions) u p₂ p') stop) where
   -- the expression of the slot, up to what follows it
   value : ℕ → Expression Written → Emitting
   value j x = emit-expression (resolve-expression (place-of place) (within-slot j (place-of place)) x) (n .expressions) (emitting (set-slot-name p (n .expressions) j) (one-expression (numbers n)))
@@ -96,23 +99,23 @@ module _ (s b e : List ℕ) (count : ℕ) (place : Place) (n : Next) (q : ℕ) (
   linked-to ss t = emitting (set-slot-link (t .words) (n .expressions) (link-to-slots ss (n .expressions) (t .next .expressions))) (t .next)
 
   slot-says : PassTwo s (n .at) 25 6 q → (us vs : List Symbol) (j : ℕ) (x : Expression Written) (ss : Slots Written) → Ahead s (table-of s b e count) n us → SlotsHere place us (Slots.slot j x ss) vs →
-      Small (slot-emitted place j x ss (emitting p (numbers n)) .next) → SlotDone place s (table-of s b e count) j x ss n p vs p' r
+      Small (slot-emitted place j x ss (emitting p (numbers n)) .next) → SlotDone place s (table-of s b e count) j x ss n p vs p' (stop .next)
   unfolding slot-emitted value front-kind kind-of fixed-kind resolve-slots linked-to
   slot-says y us vs j x ss h g l = go us j x ss h (g .slots) (slot-rooms place j x ss (g .room)) l
     where
       go : (us : List Symbol) (j : ℕ) (x : Expression Written) (ss : Slots Written) → Ahead s (table-of s b e count) n us → Slots⊢ us (Slots.slot j x ss) vs →
-          Room place (expression-deep x) × Room place (slots-deep ss) → Small (slot-emitted place j x ss (emitting p (numbers n)) .next) → SlotDone place s (table-of s b e count) j x ss n p vs p' r
+          Room place (expression-deep x) × Room place (slots-deep ss) → Small (slot-emitted place j x ss (emitting p (numbers n)) .next) → SlotDone place s (table-of s b e count) j x ss n p vs p' (stop .next)
       go _ j x _ h (Slots⊢.last-slot {ts = ts} d) rooms l =
           let v = valued y ts vs j x h d (ends-at vs 13 (g .ends) (λ a. absurd (omega arith)) (omega arith)) (rooms .0) l in
-          let w = c .last (table-of s b e count) vs (v .ahead) (g .ends) in
+          let w = c .done .last (table-of s b e count) vs (v .ahead) (g .ends) in
           record { emitted = w .linked ∙ ap (linked-to Slots.no-slots) (v .is); rest = vs; ahead = w .ahead; more = Slots⊢.no-slots }
       go _ j x ss h (Slots⊢.more-slots {ts = ts} {us = us} d i) rooms l =
           let v = valued y ts _ j x h d (ends-at _ 11 refl (λ a. absurd (omega arith)) (omega arith)) (rooms .0) l in
-          let w = c .more (table-of s b e count) us vs ss (place-of place) (v .ahead) i (g .ends) in
+          let w = c .done .more (table-of s b e count) us vs ss (place-of place) (v .ahead) i (g .ends) in
           record { emitted = w .linked ∙ ap (linked-to (resolve-slots (place-of place) ss)) (v .is); rest = us; ahead = w .ahead; more = i }
 
-  pub slot-done : SlotEmits place s (table-of s b e count) n q p p' r
-  slot-done = record { says = slot-says; on = omega (arith, f .on, c .on, ap (λ (a : Next). a .at) em) }
+  pub slot-done : Stands s (SlotEmits place s (table-of s b e count) n q p p') stop
+  slot-done = record { done = record { says = slot-says; on = omega (arith, f .on, c .done .on, ap (λ (a : Next). a .at) em) }; seen = c .seen }
 
 pub slot-falls : (s : List ℕ) (n : Next) (q : ℕ) (m : Next) → m ≡ go-to n q → (t : ℕ) → 16 * (length s - q) + 6 ≡ t → 16 * (length s - m .at) + 5 < t
 slot-falls s n q m em t h = omega (arith, ap (λ (a : Next). a .at) em)
@@ -120,8 +123,8 @@ slot-falls s n q m em t h = omega (arith, ap (λ (a : Next). a .at) em)
 -- ---- All slots
 
 module _ (s : List ℕ) (table : List (List ℕ)) (place : Place) (n₀ : Next) (p₀ : List ℕ) where
-  pub slots-start : Going (SlotsHere place) (slots-emitted place) s table n₀ p₀ n₀ p₀
-  slots-start = record { on = omega arith; size = refl; back = λ p' r x. x }
+  pub slots-start : (t : Seen) → Sees s (n₀ .at) t → Going (SlotsHere place) (slots-emitted place) s table n₀ p₀ n₀ p₀ t
+  slots-start t x = record { seen = x; on = omega arith; size = refl; back = λ p' r x. x }
 
   -- no slots where no name with `:=` is ahead
   no-slots-here : (n : Next) (p : List ℕ) → ((j : ℕ) (ts : List Symbol) → Ahead s table n (Symbol.name j ∷ Symbol.fixed Fixed.assign ∷ ts) → ⊥) →
@@ -134,7 +137,7 @@ module _ (s : List ℕ) (table : List (List ℕ)) (place : Place) (n₀ : Next) 
       go _ vs _ h (Slots⊢.last-slot {ts = ts} d) = absurd (f _ ts h)
       go _ vs _ h (Slots⊢.more-slots {ts = ts} d g) = absurd (f _ ts h)
 
-  module _ (n : Next) (p : List ℕ) (i : Going (SlotsHere place) (slots-emitted place) s table n₀ p₀ n p) where
+  module _ (n : Next) (p : List ℕ) (t : Seen) (i : Going (SlotsHere place) (slots-emitted place) s table n₀ p₀ n p t) where
     pub slots-end : length s ≤ n .at → Emits (SlotsHere place) (slots-emitted place) s table n₀ p₀ p n
     unfolding front-kind kind-of
     slots-end l = i .back p n (no-slots-here n p (λ j ts h. none (past-kind s table n _ l h)))
@@ -142,30 +145,25 @@ module _ (s : List ℕ) (table : List (List ℕ)) (place : Place) (n₀ : Next) 
         none : _≡_ {A = ℕ} 25 29 → ⊥
         none e = omega arith
 
-    module _ (q : ℕ) (x : PassTwo s (n .at) 25 6 q) where
-      name-taken : (j : ℕ) (ts : List Symbol) → Ahead s table n (Symbol.name j ∷ Symbol.fixed Fixed.assign ∷ ts) → n .at < q
-      unfolding token-kind fixed-kind
-      name-taken j ts h =
-          let a = name-first table (n .strings) (n .codes) (h .tokens) j _ (h .are) in
-          let g = fixed-first table (n .strings) (n .codes) (a .1) Fixed.assign ts (a .4) in
-          x .taken (Token.name (a .0)) (Token.fixed Fixed.assign) (g .0) (rw (a .2, g .1) at (h .reads)) refl refl .further
+    pub slots-other : (t .kind ≡ 25 → ⊥) → Emits (SlotsHere place) (slots-emitted place) s table n₀ p₀ p n
+    unfolding front-kind kind-of
+    slots-other other = i .back p n (no-slots-here n p (λ j ts h. other (sym (seen-kind s table n t (i .seen) _ h))))
 
-      pub slots-none : q ≤ n .at → Emits (SlotsHere place) (slots-emitted place) s table n₀ p₀ p n
-      slots-none l = i .back p n (no-slots-here n p (λ j ts h. back (name-taken j ts h)))
+    module _ (name : t .kind ≡ 25) (q : ℕ) (y : Pass s (t .end) 6 q) where
+      pub slots-none : q ≤ t .end → Emits (SlotsHere place) (slots-emitted place) s table n₀ p₀ p n
+      unfolding fixed-kind
+      slots-none l = i .back p n (no-slots-here n p (λ j ts h. back (pass-fixed s table (go-to n (t .end)) q Fixed.assign ts y (seen-name s table n t (i .seen) j _ h .ahead) .further)))
         where
-          back : n .at < q → ⊥
+          back : t .end < q → ⊥
           back a = omega arith
 
-      module _ (l : n .at < q) (p₁ : List ℕ) (m : Next) (f : SlotEmits place s table n q p p₁ m) where
+      module _ (l : t .end < q) (p₁ : List ℕ) (m : Next) (f : SlotEmits place s table n q p p₁ m) where
         on-slots : (p' : List ℕ) (r : Next) → Emits (SlotsHere place) (slots-emitted place) s table m p₁ p' r → Emits (SlotsHere place) (slots-emitted place) s table n p p' r
         unfolding slots-emitted resolve-slots emit-slots slot-emitted
-        on-slots p' r g = record { says = λ us vs ss h w a. go us vs ss h w a; on = omega (arith, f .on, g .on) }
+        on-slots p' r g = record { says = λ us vs ss h w a. go us vs ss h w a; on = omega (arith, i .seen .on, f .on, g .on) }
           where
             thirteen : _≡_ {A = ℕ} 13 25 → ⊥
             thirteen e = omega arith
-
-            stays : q ≡ n .at → ⊥
-            stays e = omega arith
 
             ended : (us vs : List Symbol) → Slots⊢ us Slots.no-slots vs → us ≡ vs
             ended us vs Slots⊢.no-slots = refl
@@ -173,19 +171,19 @@ module _ (s : List ℕ) (table : List (List ℕ)) (place : Place) (n₀ : Next) 
             go : (us vs : List Symbol) (ss : Slots Written) → Ahead s table n us → SlotsHere place us ss vs → Small (slots-emitted place ss (emitting p (numbers n)) .next) →
                 Emitted s table (slots-emitted place ss (emitting p (numbers n))) p' r vs
             go us vs Slots.no-slots h w a =
-                absurd (stays (x .left (h .tokens) (h .reads) (λ e. thirteen (sym (w .ends) ∙ ap front-kind (sym (ended us vs (w .slots))) ∙ kind-ahead s table n us h ∙ e))))
+                absurd (thirteen (sym (w .ends) ∙ ap front-kind (sym (ended us vs (w .slots))) ∙ seen-kind s table n t (i .seen) us h ∙ name))
             go us vs (Slots.slot j e ss) h w a =
-                let d = f .says x us vs j e ss h w (slots-before (resolve-slots (place-of place) ss) (slot-emitted place j e ss (emitting p (numbers n))) a) in
+                let d = f .says (seen-two s (n .at) t (i .seen) 25 name 6 q y l) us vs j e ss h w (slots-before (resolve-slots (place-of place) ss) (slot-emitted place j e ss (emitting p (numbers n))) a) in
                 carry s table (slots-emitted place ss) (slot-emitted place j e ss (emitting p (numbers n))) (emitting p₁ (numbers m)) (sym (d .emitted)) p' r vs
                 (g .says (d .rest) vs ss (d .ahead) (record { slots = d .more; ends = w .ends; room = slot-rooms place j e ss (w .room) .1 })) a
 
-        pub slots-again : length p₁ ≡ length p → Going (SlotsHere place) (slots-emitted place) s table n₀ p₀ m p₁
-        slots-again e = record { on = omega (arith, i .on, f .on); size = e ∙ i .size; back = λ p' r g. i .back p' r (on-slots p' r g) }
+        pub slots-again : length p₁ ≡ length p → (t' : Seen) → Sees s (m .at) t' → Going (SlotsHere place) (slots-emitted place) s table n₀ p₀ m p₁ t'
+        slots-again e t' x = record { seen = x; on = omega (arith, i .on, i .seen .on, f .on); size = e ∙ i .size; back = λ p' r g. i .back p' r (on-slots p' r g) }
 
 -- ---- Instructions
 
 -- `show` base
-module _ (s : List ℕ) (table : List (List ℕ)) (place : Place) (i : ℕ) (n : Next) (p : List ℕ) (m : Next) (z : Skipped s n 2 m) (p₁ : List ℕ)
+module _ (s : List ℕ) (table : List (List ℕ)) (place : Place) (i : ℕ) (n : Next) (p : List ℕ) (q : Seen) (z : Sees s (n .at) q) (m : Next) (em : m ≡ go-to n (q .end)) (p₁ : List ℕ)
     (e₁ : p₁ ≡ set-instruction p i (InstructionEntry.Show (m .expressions))) (p' : List ℕ) (r : Next) (f : Emits (BaseHere place) (operand-emitted place) s table m p₁ p' r) where
   show-entry : Emitting → Emitting
   show-entry t = emitting (set-instruction (t .words) i (InstructionEntry.Show (t .next .expressions))) (t .next)
@@ -195,14 +193,14 @@ module _ (s : List ℕ) (table : List (List ℕ)) (place : Place) (i : ℕ) (n :
   unfolding instruction-emitted operand-emitted resolve-instruction emit-instruction fixed-kind show-entry
   show-says _ vs _ h (ShowHere.show {a = b} {ts = ts} g) l =
       carry s table (operand-emitted place b) (show-entry (emitting p (numbers n))) (emitting p₁ (numbers m))
-      (ap show-entry (same-start s table n m Fixed.show z p) ∙ ap (λ (w : List ℕ). emitting w (numbers m)) (sym e₁)) p' r vs
-      (f .says ts vs b (after-skip s table n m Fixed.show z p ts h) g) l
+      (ap show-entry (same-start s table n q z m em p) ∙ ap (λ (w : List ℕ). emitting w (numbers m)) (sym e₁)) p' r vs
+      (f .says ts vs b (after-seen s table n q z m em Fixed.show ts h) g) l
 
   pub show-done : Emits (ShowHere place) (instruction-emitted place i) s table n p p' r
-  show-done = record { says = show-says; on = omega (arith, z .pass .on, f .on) }
+  show-done = record { says = show-says; on = omega (arith, seen-on s table n q z m em, f .on) }
 
 -- `jump` base base
-module _ (s : List ℕ) (table : List (List ℕ)) (place : Place) (i : ℕ) (n : Next) (p : List ℕ) (m : Next) (z : Skipped s n 3 m) (p₁ : List ℕ) (u : Next)
+module _ (s : List ℕ) (table : List (List ℕ)) (place : Place) (i : ℕ) (n : Next) (p : List ℕ) (q : Seen) (z : Sees s (n .at) q) (m : Next) (em : m ≡ go-to n (q .end)) (p₁ : List ℕ) (u : Next)
     (f : Emits (BaseHere place) (operand-emitted place) s table m p p₁ u) (p₂ : List ℕ) (e₂ : p₂ ≡ set-instruction p₁ i (InstructionEntry.Jump (m .expressions) (u .expressions)))
     (p' : List ℕ) (r : Next) (g : Emits (BaseHere place) (operand-emitted place) s table u p₂ p' r) where
   jump-entry : ℕ → Emitting → Emitting
@@ -226,14 +224,14 @@ module _ (s : List ℕ) (table : List (List ℕ)) (place : Place) (i : ℕ) (n :
       Emitted s table (instruction-emitted place i o (emitting p (numbers n))) p' r vs
   unfolding instruction-emitted operand-emitted resolve-instruction emit-instruction fixed-kind jump-both jump-entry
   jump-says _ vs _ h (JumpHere.jump {a = a} {b = b} {ts = ts} {us = ws} ha hb) l =
-      carry s table (jump-both a b) (emitting p (numbers n)) (emitting p (numbers m)) (same-start s table n m Fixed.jump z p) p' r vs
-      (both-says ts ws vs a b (after-skip s table n m Fixed.jump z p ts h) ha hb) l
+      carry s table (jump-both a b) (emitting p (numbers n)) (emitting p (numbers m)) (same-start s table n q z m em p) p' r vs
+      (both-says ts ws vs a b (after-seen s table n q z m em Fixed.jump ts h) ha hb) l
 
   pub jump-done : Emits (JumpHere place) (instruction-emitted place i) s table n p p' r
-  jump-done = record { says = jump-says; on = omega (arith, z .pass .on, f .on, g .on) }
+  jump-done = record { says = jump-says; on = omega (arith, seen-on s table n q z m em, f .on, g .on) }
 
 -- `ifeq` base base base
-module _ (s : List ℕ) (table : List (List ℕ)) (place : Place) (i : ℕ) (n : Next) (p : List ℕ) (m : Next) (z : Skipped s n 4 m) (p₁ : List ℕ) (u : Next)
+module _ (s : List ℕ) (table : List (List ℕ)) (place : Place) (i : ℕ) (n : Next) (p : List ℕ) (q : Seen) (z : Sees s (n .at) q) (m : Next) (em : m ≡ go-to n (q .end)) (p₁ : List ℕ) (u : Next)
     (f : Emits (BaseHere place) (operand-emitted place) s table m p p₁ u) (p₂ : List ℕ) (v : Next) (g : Emits (BaseHere place) (operand-emitted place) s table u p₁ p₂ v) (p₃ : List ℕ)
     (e₃ : p₃ ≡ set-instruction p₂ i (InstructionEntry.Ifeq (m .expressions) (u .expressions) (v .expressions))) (p' : List ℕ) (r : Next)
     (o : Emits (BaseHere place) (operand-emitted place) s table v p₃ p' r) where
@@ -273,11 +271,11 @@ module _ (s : List ℕ) (table : List (List ℕ)) (place : Place) (i : ℕ) (n :
       Emitted s table (instruction-emitted place i j (emitting p (numbers n))) p' r vs
   unfolding instruction-emitted operand-emitted resolve-instruction emit-instruction fixed-kind ifeq-all ifeq-rest ifeq-entry
   ifeq-says _ vs _ h (IfeqHere.ifeq {a = a} {b = b} {c = c} {ts = ts} {us = ws} {ws = xs} ha hb hc) l =
-      carry s table (ifeq-all a b c) (emitting p (numbers n)) (emitting p (numbers m)) (same-start s table n m Fixed.ifeq z p) p' r vs
-      (all-says ts ws xs vs a b c (after-skip s table n m Fixed.ifeq z p ts h) ha hb hc) l
+      carry s table (ifeq-all a b c) (emitting p (numbers n)) (emitting p (numbers m)) (same-start s table n q z m em p) p' r vs
+      (all-says ts ws xs vs a b c (after-seen s table n q z m em Fixed.ifeq ts h) ha hb hc) l
 
   pub ifeq-done : Emits (IfeqHere place) (instruction-emitted place i) s table n p p' r
-  ifeq-done = record { says = ifeq-says; on = omega (arith, z .pass .on, f .on, g .on, o .on) }
+  ifeq-done = record { says = ifeq-says; on = omega (arith, seen-on s table n q z m em, f .on, g .on, o .on) }
 
 -- path `:=` expression
 module _ (s : List ℕ) (table : List (List ℕ)) (place : Place) (i : ℕ) (n : Next) (p p₁ : List ℕ) (u : Next) (f : Emits (TargetHere place) (target-emitted place i) s table n p p₁ u)
@@ -380,9 +378,9 @@ pub line-falls : (s : List ℕ) (n m : Next) → m ≡ take-instruction n → (t
 line-falls s n m em t e = omega (arith, ap (λ (a : Next). a .at) em)
 
 module _ (s : List ℕ) (table : List (List ℕ)) (place : Place) (n : Next) (p : List ℕ) (m : Next) (em : m ≡ take-instruction n) (p₁ : List ℕ) (u : Next)
-    (f : Emits (InstructionHere place) (instruction-emitted place (n .instructions)) s table m p p₁ u) (p' : List ℕ) (r : Next) (c : LineClosed s (n .instructions) u p₁ p' r) where
+    (f : Emits (InstructionHere place) (instruction-emitted place (n .instructions)) s table m p p₁ u) (p' : List ℕ) (stop : Stand) (c : Stands s (LineClosed s (n .instructions) u p₁ p') stop) where
   line-says : (us vs : List Symbol) (o : Instruction Written) (is : Code Written) → Ahead s table n us → CodeHere place us (o then is) vs →
-      Small (line-emitted place o is (emitting p (numbers n)) .next) → LineDone place s table o is n p vs p' r
+      Small (line-emitted place o is (emitting p (numbers n)) .next) → LineDone place s table o is n p vs p' (stop .next)
   unfolding line-emitted instruction-emitted front-kind kind-of fixed-kind
   line-says us vs o is h g l = go o is (g .code) l
     where
@@ -395,11 +393,11 @@ module _ (s : List ℕ) (table : List (List ℕ)) (place : Place) (n : Next) (p 
       on-from : n .at ≤ u .at
       on-from = omega (arith, f .on, ap (λ (a : Next). a .at) em)
 
-      go : (o : Instruction Written) (is : Code Written) → Code⊢ us (o then is) vs → Small (line-emitted place o is (emitting p (numbers n)) .next) → LineDone place s table o is n p vs p' r
+      go : (o : Instruction Written) (is : Code Written) → Code⊢ us (o then is) vs → Small (line-emitted place o is (emitting p (numbers n)) .next) → LineDone place s table o is n p vs p' (stop .next)
       go o is (Code⊢.more-instructions {us = ws} d i) l =
           let e = start (instruction-before (resolve-instruction (place-of place) o) (n .instructions) (emitting p (one-instruction (numbers n))) l) in
           let v = f .says us _ o (rw em (ahead-same s table n (take-instruction n) us refl refl refl h)) (record { instruction = d; ends = refl; inside = g .inside }) (rw e l) in
-          let w = c .says table ws vs is (place-of place) (v .ahead) i (g .ends) in
+          let w = c .done .says table ws vs is (place-of place) (v .ahead) i (g .ends) in
           record {
             further = omega (arith, on-from, w .further);
             emitted = w .linked ∙ ap (linked-to (resolve-code (place-of place) is)) (v .is ∙ ap (emit-instruction (resolve-instruction (place-of place) o) (n .instructions)) e);
@@ -408,14 +406,14 @@ module _ (s : List ℕ) (table : List (List ℕ)) (place : Place) (n : Next) (p 
             more = i;
           }
 
-  pub line-done : LineEmits place s table n p p' r
-  line-done = record { says = line-says; on = omega (arith, f .on, c .on, ap (λ (a : Next). a .at) em) }
+  pub line-done : Stands s (LineEmits place s table n p p') stop
+  line-done = record { done = record { says = line-says; on = omega (arith, f .on, c .done .on, ap (λ (a : Next). a .at) em) }; seen = c .seen }
 
 -- ---- All instructions
 
 module _ (s : List ℕ) (table : List (List ℕ)) (place : Place) (n₀ : Next) (p₀ : List ℕ) where
-  pub lines-start : Going (CodeHere place) (code-emitted place) s table n₀ p₀ n₀ p₀
-  lines-start = record { on = omega arith; size = refl; back = λ p' r x. x }
+  pub lines-start : (t : Seen) → Sees s (n₀ .at) t → Going (CodeHere place) (code-emitted place) s table n₀ p₀ n₀ p₀ t
+  lines-start t x = record { seen = x; on = omega arith; size = refl; back = λ p' r x. x }
 
   -- no instructions where none can begin
   no-lines-here : (n : Next) (p : List ℕ) → ((us : List Symbol) → Ahead s table n us → front-kind us ≤ 8 → ⊥) → Emits (CodeHere place) (code-emitted place) s table n p p n
@@ -426,52 +424,51 @@ module _ (s : List ℕ) (table : List (List ℕ)) (place : Place) (n₀ : Next) 
       go us vs _ h Code⊢.no-instructions = record { is = refl; ahead = h }
       go us vs _ h (Code⊢.more-instructions d g) = absurd (f us h (instruction-kind us _ _ d))
 
-  module _ (n : Next) (p : List ℕ) (i : Going (CodeHere place) (code-emitted place) s table n₀ p₀ n p) where
+  module _ (n : Next) (p : List ℕ) (t : Seen) (i : Going (CodeHere place) (code-emitted place) s table n₀ p₀ n p t) where
     over : (k : ℕ) → 8 < k → (us : List Symbol) → front-kind us ≡ k → front-kind us ≤ 8 → ⊥
     over k l us e g = omega arith
 
     pub lines-end : length s ≤ n .at → Emits (CodeHere place) (code-emitted place) s table n₀ p₀ p n
     lines-end l = i .back p n (no-lines-here n p (λ us h. over 29 (omega arith) us (past-kind s table n us l h)))
 
-    module _ (k : ℕ) (x : KindAt s (n .at) k) where
-      pub lines-none : k ≡ 15 → Emits (CodeHere place) (code-emitted place) s table n₀ p₀ p n
-      lines-none e = i .back p n (no-lines-here n p (λ us h. over 15 (omega arith) us (kind-here s table n us k x h ∙ e)))
+    pub lines-none : t .kind ≡ 15 → Emits (CodeHere place) (code-emitted place) s table n₀ p₀ p n
+    lines-none e = i .back p n (no-lines-here n p (λ us h. over 15 (omega arith) us (seen-kind s table n t (i .seen) us h ∙ e)))
 
-      module _ (ne : k ≡ 15 → ⊥) (p₁ : List ℕ) (m : Next) (f : LineEmits place s table n p p₁ m) where
-        -- instructions begin here
-        then-is : (us vs : List Symbol) → Ahead s table n us → CodeHere place us Code.finished vs → ⊥
-        then-is us vs h g = ne (sym (kind-here s table n us k x h) ∙ ap front-kind (ended us vs (g .code)) ∙ g .ends)
-          where
-            ended : (us vs : List Symbol) → Code⊢ us Code.finished vs → us ≡ vs
-            ended us vs Code⊢.no-instructions = refl
+    module _ (ne : t .kind ≡ 15 → ⊥) (p₁ : List ℕ) (m : Next) (f : LineEmits place s table n p p₁ m) where
+      -- instructions begin here
+      then-is : (us vs : List Symbol) → Ahead s table n us → CodeHere place us Code.finished vs → ⊥
+      then-is us vs h g = ne (sym (seen-kind s table n t (i .seen) us h) ∙ ap front-kind (ended us vs (g .code)) ∙ g .ends)
+        where
+          ended : (us vs : List Symbol) → Code⊢ us Code.finished vs → us ≡ vs
+          ended us vs Code⊢.no-instructions = refl
 
-        one-line : (us vs : List Symbol) (o : Instruction Written) (is : Code Written) → Ahead s table n us → CodeHere place us (o then is) vs →
-            Small (code-emitted place (o then is) (emitting p (numbers n)) .next) → LineDone place s table o is n p vs p₁ m
-        unfolding code-emitted resolve-code emit-code line-emitted
-        one-line us vs o is h g l = f .says us vs o is h g (code-before (resolve-code (place-of place) is) (line-emitted place o is (emitting p (numbers n))) l)
+      one-line : (us vs : List Symbol) (o : Instruction Written) (is : Code Written) → Ahead s table n us → CodeHere place us (o then is) vs →
+          Small (code-emitted place (o then is) (emitting p (numbers n)) .next) → LineDone place s table o is n p vs p₁ m
+      unfolding code-emitted resolve-code emit-code line-emitted
+      one-line us vs o is h g l = f .says us vs o is h g (code-before (resolve-code (place-of place) is) (line-emitted place o is (emitting p (numbers n))) l)
 
-        pub lines-stuck : m .at ≤ n .at → Emits (CodeHere place) (code-emitted place) s table n₀ p₀ p₁ m
-        lines-stuck l = i .back p₁ m (record { says = λ us vs is h g a. absurd (go us vs is h g a); on = f .on })
-          where
-            back : n .at < m .at → ⊥
-            back a = omega arith
+      pub lines-stuck : m .at ≤ n .at → Emits (CodeHere place) (code-emitted place) s table n₀ p₀ p₁ m
+      lines-stuck l = i .back p₁ m (record { says = λ us vs is h g a. absurd (go us vs is h g a); on = f .on })
+        where
+          back : n .at < m .at → ⊥
+          back a = omega arith
 
-            go : (us vs : List Symbol) (is : Code Written) → Ahead s table n us → CodeHere place us is vs → Small (code-emitted place is (emitting p (numbers n)) .next) → ⊥
-            go us vs Code.finished h g a = then-is us vs h g
-            go us vs (o then is) h g a = back (one-line us vs o is h g a .further)
+          go : (us vs : List Symbol) (is : Code Written) → Ahead s table n us → CodeHere place us is vs → Small (code-emitted place is (emitting p (numbers n)) .next) → ⊥
+          go us vs Code.finished h g a = then-is us vs h g
+          go us vs (o then is) h g a = back (one-line us vs o is h g a .further)
 
-        on-lines : (p' : List ℕ) (r : Next) → Emits (CodeHere place) (code-emitted place) s table m p₁ p' r → Emits (CodeHere place) (code-emitted place) s table n p p' r
-        unfolding code-emitted resolve-code emit-code line-emitted
-        on-lines p' r g = record { says = λ us vs is h w a. go us vs is h w a; on = omega (arith, f .on, g .on) }
-          where
-            go : (us vs : List Symbol) (is : Code Written) → Ahead s table n us → CodeHere place us is vs → Small (code-emitted place is (emitting p (numbers n)) .next) →
-                Emitted s table (code-emitted place is (emitting p (numbers n))) p' r vs
-            go us vs Code.finished h w a = absurd (then-is us vs h w)
-            go us vs (o then is) h w a =
-                let d = one-line us vs o is h w a in
-                carry s table (code-emitted place is) (line-emitted place o is (emitting p (numbers n))) (emitting p₁ (numbers m)) (sym (d .emitted)) p' r vs
-                (g .says (d .rest) vs is (d .ahead) (record { code = d .more; ends = w .ends; inside = w .inside })) a
+      on-lines : (p' : List ℕ) (r : Next) → Emits (CodeHere place) (code-emitted place) s table m p₁ p' r → Emits (CodeHere place) (code-emitted place) s table n p p' r
+      unfolding code-emitted resolve-code emit-code line-emitted
+      on-lines p' r g = record { says = λ us vs is h w a. go us vs is h w a; on = omega (arith, f .on, g .on) }
+        where
+          go : (us vs : List Symbol) (is : Code Written) → Ahead s table n us → CodeHere place us is vs → Small (code-emitted place is (emitting p (numbers n)) .next) →
+              Emitted s table (code-emitted place is (emitting p (numbers n))) p' r vs
+          go us vs Code.finished h w a = absurd (then-is us vs h w)
+          go us vs (o then is) h w a =
+              let d = one-line us vs o is h w a in
+              carry s table (code-emitted place is) (line-emitted place o is (emitting p (numbers n))) (emitting p₁ (numbers m)) (sym (d .emitted)) p' r vs
+              (g .says (d .rest) vs is (d .ahead) (record { code = d .more; ends = w .ends; inside = w .inside })) a
 
-        module _ (l : n .at < m .at) where
-          pub lines-again : length p₁ ≡ length p → Going (CodeHere place) (code-emitted place) s table n₀ p₀ m p₁
-          lines-again e = record { on = omega (arith, i .on); size = e ∙ i .size; back = λ p' r g. i .back p' r (on-lines p' r g) }
+      module _ (l : n .at < m .at) where
+        pub lines-again : length p₁ ≡ length p → (t' : Seen) → Sees s (m .at) t' → Going (CodeHere place) (code-emitted place) s table n₀ p₀ m p₁ t'
+        lines-again e t' x = record { seen = x; on = omega (arith, i .on); size = e ∙ i .size; back = λ p' r g. i .back p' r (on-lines p' r g) }

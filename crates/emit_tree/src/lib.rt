@@ -1,17 +1,21 @@
 // The tree of a source written as program words: functions over a source and a position that call each other in a cycle, as the readers of `grammar` do.
 ghost use Rattle.names.specs.Kept.{table-of};
+ghost use Rattle.grammar.specs.Runs.{Sees};
 ghost use Rattle.emit_paths.specs.Emits.{Emits};
+ghost use Rattle.emit_leaves.specs.Parts.{Stands};
 ghost use Rattle.emit_tree.specs.Members.{base-emitted, operand-emitted, expression-emitted, right-emitted, slots-emitted, instruction-emitted, code-emitted, BaseHere, BlockHere, ExpressionHere};
 ghost use Rattle.emit_tree.specs.Members.{NegationHere, BinaryHere, FrameHere, SlotsHere, SlotEmits, InstructionHere, ShowHere, JumpHere, IfeqHere, AssignHere, CodeHere, LineEmits};
 ghost use Rattle.emit_tree.specs.Tree.{TreeEmitted, FirstSlot};
+use emit_leaves::Stand;
 use emit_steps::Next;
 use emit_steps::Place;
+use grammar::Seen;
 use tables::ExpressionEntry;
 use tables::InstructionEntry;
 
 // ---- Bases
 
-// `code` `{` instructions `}`
+// `code` `{` instructions `}`; the first token is t.
 fn block(
     s: &[u8],
     begins: &[usize],
@@ -21,19 +25,23 @@ fn block(
     place: Place,
     x: u32,
     n: Next,
+    t: Seen,
 ) -> Next
+    requires { ⌜ Sees (now s) (n .at) t ⌝ }
     ensures { λ r. ⌜ Emits (BlockHere place) (base-emitted place x) (now (s .entry)) (table-of (now (s .entry)) (now (begins .entry)) (now (ends .entry)) count) n (now (p .entry)) (now (p .exit)) r ⌝ }
 {
-    let m = emit_leaves::open_block(s, p, x, n);
+    let o = emit_leaves::open_block(s, p, x, n, t);
+    let m = o.next;
     if m.at <= n.at {
         return m;
     }
     let inner = emit_steps::within_code(place);
-    let u = instructions(s, begins, ends, count, p, inner, m);
+    let first = o.seen;
+    let u = instructions(s, begins, ends, count, p, inner, m, first);
     emit_leaves::skip(s, u, 15)
 }
 
-// Integer, string, path or code as expression x.
+// Integer, string, path or code as expression x; its first token is t.
 fn base(
     s: &[u8],
     begins: &[usize],
@@ -43,20 +51,21 @@ fn base(
     place: Place,
     x: u32,
     n: Next,
+    t: Seen,
 ) -> Next
+    requires { ⌜ Sees (now s) (n .at) t ⌝ }
     ensures { λ r. ⌜ Emits (BaseHere place) (base-emitted place x) (now (s .entry)) (table-of (now (s .entry)) (now (begins .entry)) (now (ends .entry)) count) n (now (p .entry)) (now (p .exit)) r ⌝ }
 {
-    let k = grammar::kind_at(s, n.at);
-    if k == 28 {
-        return block(s, begins, ends, count, p, place, x, n);
+    if t.kind == 28 {
+        return block(s, begins, ends, count, p, place, x, n, t);
     }
-    if k < 26 {
-        return emit_bases::path_base(s, begins, ends, count, p, place, x, n);
+    if t.kind < 26 {
+        return emit_bases::path_base(s, begins, ends, count, p, place, x, n, t);
     }
-    if k == 26 {
-        return emit_leaves::integer(s, p, x, n);
+    if t.kind == 26 {
+        return emit_leaves::integer(s, p, x, n, t);
     }
-    emit_leaves::string(s, p, x, n)
+    emit_leaves::string(s, p, x, n, t)
 }
 
 // A base as the next expression.
@@ -73,12 +82,13 @@ fn operand(
 {
     let x = n.expressions;
     let m = emit_steps::one_expression(n, n.at);
-    base(s, begins, ends, count, p, place, x, m)
+    let t = grammar::look(s, m.at);
+    base(s, begins, ends, count, p, place, x, m, t)
 }
 
 // ---- Expressions
 
-// `!` base
+// `!` base; the first token is t.
 fn negation(
     s: &[u8],
     begins: &[usize],
@@ -88,15 +98,17 @@ fn negation(
     place: Place,
     x: u32,
     n: Next,
+    t: Seen,
 ) -> Next
+    requires { ⌜ Sees (now s) (n .at) t ⌝ }
     ensures { λ r. ⌜ Emits (NegationHere place) (expression-emitted place place x) (now (s .entry)) (table-of (now (s .entry)) (now (begins .entry)) (now (ends .entry)) count) n (now (p .entry)) (now (p .exit)) r ⌝ }
 {
-    let m = emit_leaves::skip(s, n, 9);
+    let m = emit_steps::go_to(n, t.end);
     table_updates::set_expression(p, x, ExpressionEntry::Not(m.expressions));
     operand(s, begins, ends, count, p, place, m)
 }
 
-// base operator base
+// base operator base; the first token is t.
 fn binary(
     s: &[u8],
     begins: &[usize],
@@ -106,15 +118,19 @@ fn binary(
     place: Place,
     x: u32,
     n: Next,
+    t: Seen,
 ) -> Next
+    requires { ⌜ Sees (now s) (n .at) t ⌝ }
     ensures { λ r. ⌜ Emits (BinaryHere place) (expression-emitted place place x) (now (s .entry)) (table-of (now (s .entry)) (now (begins .entry)) (now (ends .entry)) count) n (now (p .entry)) (now (p .exit)) r ⌝ }
 {
-    let u = operand(s, begins, ends, count, p, place, n);
-    let v = emit_leaves::operator(s, p, x, n.expressions, u);
+    let a = n.expressions;
+    let m = emit_steps::one_expression(n, n.at);
+    let u = base(s, begins, ends, count, p, place, a, m, t);
+    let v = emit_leaves::operator(s, p, x, a, u);
     operand(s, begins, ends, count, p, place, v)
 }
 
-// `frame` `:` `[` slots `]`
+// `frame` `:` `[` slots `]`; the first token is t.
 fn frame(
     s: &[u8],
     begins: &[usize],
@@ -124,18 +140,22 @@ fn frame(
     inner: Place,
     x: u32,
     n: Next,
+    t: Seen,
 ) -> Next
+    requires { ⌜ Sees (now s) (n .at) t ⌝ }
     ensures { λ r. ⌜ Emits (FrameHere inner) (expression-emitted inner inner x) (now (s .entry)) (table-of (now (s .entry)) (now (begins .entry)) (now (ends .entry)) count) n (now (p .entry)) (now (p .exit)) r ⌝ }
 {
-    let m = emit_leaves::open_frame(s, p, x, n);
+    let o = emit_leaves::open_frame(s, p, x, n, t);
+    let m = o.next;
     if m.at <= n.at {
         return m;
     }
-    let u = slots(s, begins, ends, count, p, inner, m);
+    let first = o.seen;
+    let u = slots(s, begins, ends, count, p, inner, m, first);
     emit_leaves::skip(s, u, 13)
 }
 
-// An expression as expression x; `inner` is the place of what is written in a frame that it is.
+// An expression as expression x, whose first token is t; `inner` is the place of what is written in a frame that it is.
 fn expression(
     s: &[u8],
     begins: &[usize],
@@ -146,20 +166,21 @@ fn expression(
     inner: Place,
     x: u32,
     n: Next,
+    t: Seen,
 ) -> Next
+    requires { ⌜ Sees (now s) (n .at) t ⌝ }
     ensures { λ r. ⌜ Emits (ExpressionHere place inner) (expression-emitted place inner x) (now (s .entry)) (table-of (now (s .entry)) (now (begins .entry)) (now (ends .entry)) count) n (now (p .entry)) (now (p .exit)) r ⌝ }
 {
-    let k = grammar::kind_at(s, n.at);
-    if k == 0 {
-        return frame(s, begins, ends, count, p, inner, x, n);
+    if t.kind == 0 {
+        return frame(s, begins, ends, count, p, inner, x, n, t);
     }
-    if k == 9 {
-        return negation(s, begins, ends, count, p, place, x, n);
+    if t.kind == 9 {
+        return negation(s, begins, ends, count, p, place, x, n, t);
     }
-    if emit_leaves::operator_after(s, n.at) {
-        return binary(s, begins, ends, count, p, place, x, n);
+    if emit_leaves::operator_after(s, n.at, t) {
+        return binary(s, begins, ends, count, p, place, x, n, t);
     }
-    base(s, begins, ends, count, p, place, x, n)
+    base(s, begins, ends, count, p, place, x, n, t)
 }
 
 // An expression as the next expression.
@@ -177,12 +198,13 @@ fn right(
 {
     let x = n.expressions;
     let m = emit_steps::one_expression(n, n.at);
-    expression(s, begins, ends, count, p, place, inner, x, m)
+    let t = grammar::look(s, m.at);
+    expression(s, begins, ends, count, p, place, inner, x, m, t)
 }
 
 // ---- Slots
 
-// One slot, whose expression begins at q.
+// One slot, whose name is the token t and whose expression begins at q.
 fn slot(
     s: &[u8],
     begins: &[usize],
@@ -192,17 +214,19 @@ fn slot(
     place: Place,
     n: Next,
     q: usize,
-) -> Next
-    ensures { λ r. ⌜ SlotEmits place (now (s .entry)) (table-of (now (s .entry)) (now (begins .entry)) (now (ends .entry)) count) n q (now (p .entry)) (now (p .exit)) r ⌝ }
+    t: Seen,
+) -> Stand
+    requires { ⌜ Sees (now s) (n .at) t ⌝ }
+    ensures { λ r. ⌜ Stands (now (s .entry)) (SlotEmits place (now (s .entry)) (table-of (now (s .entry)) (now (begins .entry)) (now (ends .entry)) count) n q (now (p .entry)) (now (p .exit))) r ⌝ }
 {
-    let k = emit_leaves::name_slot(s, begins, ends, count, p, n);
+    let k = emit_leaves::name_slot(s, begins, ends, count, p, n, t);
     let inner = emit_steps::within_slot(place, k);
     let m = emit_steps::go_to(n, q);
     let u = right(s, begins, ends, count, p, place, inner, m);
     emit_leaves::close_slot(s, p, n.expressions, u)
 }
 
-// Slots, parted by commas.
+// Slots, parted by commas; the first token is `first`.
 fn slots(
     s: &[u8],
     begins: &[usize],
@@ -211,23 +235,31 @@ fn slots(
     p: &mut [u32],
     place: Place,
     n: Next,
+    first: Seen,
 ) -> Next
+    requires { ⌜ Sees (now s) (n .at) first ⌝ }
     ensures { λ r. ⌜ Emits (SlotsHere place) (slots-emitted place) (now (s .entry)) (table-of (now (s .entry)) (now (begins .entry)) (now (ends .entry)) count) n (now (p .entry)) (now (p .exit)) r ⌝ }
 {
     let mut m = n;
+    let mut t = first;
     while m.at < s.len() {
-        let q = emit_steps::pass_two(s, m.at, 25, 6);
-        if q <= m.at {
+        if t.kind != 25 {
             return m;
         }
-        m = slot(s, begins, ends, count, p, place, m, q);
+        let q = emit_steps::pass(s, t.end, 6);
+        if q <= t.end {
+            return m;
+        }
+        let r = slot(s, begins, ends, count, p, place, m, q, t);
+        m = r.next;
+        t = r.seen;
     }
     m
 }
 
 // ---- Instructions
 
-// `show` base
+// `show` base; the first token is t.
 fn showing(
     s: &[u8],
     begins: &[usize],
@@ -237,15 +269,17 @@ fn showing(
     place: Place,
     i: u32,
     n: Next,
+    t: Seen,
 ) -> Next
+    requires { ⌜ Sees (now s) (n .at) t ⌝ }
     ensures { λ r. ⌜ Emits (ShowHere place) (instruction-emitted place i) (now (s .entry)) (table-of (now (s .entry)) (now (begins .entry)) (now (ends .entry)) count) n (now (p .entry)) (now (p .exit)) r ⌝ }
 {
-    let m = emit_leaves::skip(s, n, 2);
+    let m = emit_steps::go_to(n, t.end);
     table_updates::set_instruction(p, i, InstructionEntry::Show(m.expressions));
     operand(s, begins, ends, count, p, place, m)
 }
 
-// `jump` base base
+// `jump` base base; the first token is t.
 fn jumping(
     s: &[u8],
     begins: &[usize],
@@ -255,16 +289,18 @@ fn jumping(
     place: Place,
     i: u32,
     n: Next,
+    t: Seen,
 ) -> Next
+    requires { ⌜ Sees (now s) (n .at) t ⌝ }
     ensures { λ r. ⌜ Emits (JumpHere place) (instruction-emitted place i) (now (s .entry)) (table-of (now (s .entry)) (now (begins .entry)) (now (ends .entry)) count) n (now (p .entry)) (now (p .exit)) r ⌝ }
 {
-    let m = emit_leaves::skip(s, n, 3);
+    let m = emit_steps::go_to(n, t.end);
     let u = operand(s, begins, ends, count, p, place, m);
     table_updates::set_instruction(p, i, InstructionEntry::Jump(m.expressions, u.expressions));
     operand(s, begins, ends, count, p, place, u)
 }
 
-// `ifeq` base base base
+// `ifeq` base base base; the first token is t.
 fn branching(
     s: &[u8],
     begins: &[usize],
@@ -274,10 +310,12 @@ fn branching(
     place: Place,
     i: u32,
     n: Next,
+    t: Seen,
 ) -> Next
+    requires { ⌜ Sees (now s) (n .at) t ⌝ }
     ensures { λ r. ⌜ Emits (IfeqHere place) (instruction-emitted place i) (now (s .entry)) (table-of (now (s .entry)) (now (begins .entry)) (now (ends .entry)) count) n (now (p .entry)) (now (p .exit)) r ⌝ }
 {
-    let m = emit_leaves::skip(s, n, 4);
+    let m = emit_steps::go_to(n, t.end);
     let u = operand(s, begins, ends, count, p, place, m);
     let v = operand(s, begins, ends, count, p, place, u);
     let e = InstructionEntry::Ifeq(m.expressions, u.expressions, v.expressions);
@@ -285,7 +323,7 @@ fn branching(
     operand(s, begins, ends, count, p, place, v)
 }
 
-// path `:=` expression
+// path `:=` expression; the first token is t.
 fn assigning(
     s: &[u8],
     begins: &[usize],
@@ -295,14 +333,16 @@ fn assigning(
     place: Place,
     i: u32,
     n: Next,
+    t: Seen,
 ) -> Next
+    requires { ⌜ Sees (now s) (n .at) t ⌝ }
     ensures { λ r. ⌜ Emits (AssignHere place) (instruction-emitted place i) (now (s .entry)) (table-of (now (s .entry)) (now (begins .entry)) (now (ends .entry)) count) n (now (p .entry)) (now (p .exit)) r ⌝ }
 {
-    let u = emit_leaves::assign_target(s, begins, ends, count, p, place, i, n);
+    let u = emit_leaves::assign_target(s, begins, ends, count, p, place, i, n, t);
     right(s, begins, ends, count, p, place, place, u)
 }
 
-// An instruction as instruction i.
+// An instruction as instruction i; its first token is t.
 fn instruction(
     s: &[u8],
     begins: &[usize],
@@ -312,23 +352,24 @@ fn instruction(
     place: Place,
     i: u32,
     n: Next,
+    t: Seen,
 ) -> Next
+    requires { ⌜ Sees (now s) (n .at) t ⌝ }
     ensures { λ r. ⌜ Emits (InstructionHere place) (instruction-emitted place i) (now (s .entry)) (table-of (now (s .entry)) (now (begins .entry)) (now (ends .entry)) count) n (now (p .entry)) (now (p .exit)) r ⌝ }
 {
-    let k = grammar::kind_at(s, n.at);
-    if k == 2 {
-        return showing(s, begins, ends, count, p, place, i, n);
+    if t.kind == 2 {
+        return showing(s, begins, ends, count, p, place, i, n, t);
     }
-    if k == 3 {
-        return jumping(s, begins, ends, count, p, place, i, n);
+    if t.kind == 3 {
+        return jumping(s, begins, ends, count, p, place, i, n, t);
     }
-    if k == 4 {
-        return branching(s, begins, ends, count, p, place, i, n);
+    if t.kind == 4 {
+        return branching(s, begins, ends, count, p, place, i, n, t);
     }
-    assigning(s, begins, ends, count, p, place, i, n)
+    assigning(s, begins, ends, count, p, place, i, n, t)
 }
 
-// One instruction with its `;`
+// One instruction with its `;`; its first token is t.
 fn line(
     s: &[u8],
     begins: &[usize],
@@ -337,16 +378,18 @@ fn line(
     p: &mut [u32],
     place: Place,
     n: Next,
-) -> Next
-    ensures { λ r. ⌜ LineEmits place (now (s .entry)) (table-of (now (s .entry)) (now (begins .entry)) (now (ends .entry)) count) n (now (p .entry)) (now (p .exit)) r ⌝ }
+    t: Seen,
+) -> Stand
+    requires { ⌜ Sees (now s) (n .at) t ⌝ }
+    ensures { λ r. ⌜ Stands (now (s .entry)) (LineEmits place (now (s .entry)) (table-of (now (s .entry)) (now (begins .entry)) (now (ends .entry)) count) n (now (p .entry)) (now (p .exit))) r ⌝ }
 {
     let i = n.instructions;
     let m = emit_steps::one_instruction(n);
-    let u = instruction(s, begins, ends, count, p, place, i, m);
+    let u = instruction(s, begins, ends, count, p, place, i, m, t);
     emit_leaves::close_line(s, p, i, u)
 }
 
-// Instructions, each closed by `;`, up to `}`.
+// Instructions, each closed by `;`, up to `}`; the first token is `first`.
 fn instructions(
     s: &[u8],
     begins: &[usize],
@@ -355,17 +398,21 @@ fn instructions(
     p: &mut [u32],
     place: Place,
     n: Next,
+    first: Seen,
 ) -> Next
+    requires { ⌜ Sees (now s) (n .at) first ⌝ }
     ensures { λ r. ⌜ Emits (CodeHere place) (code-emitted place) (now (s .entry)) (table-of (now (s .entry)) (now (begins .entry)) (now (ends .entry)) count) n (now (p .entry)) (now (p .exit)) r ⌝ }
 {
     let mut m = n;
+    let mut t = first;
     while m.at < s.len() {
-        let at = m.at;
-        let k = grammar::kind_at(s, at);
-        if k == 15 {
+        if t.kind == 15 {
             return m;
         }
-        m = line(s, begins, ends, count, p, place, m);
+        let at = m.at;
+        let r = line(s, begins, ends, count, p, place, m, t);
+        m = r.next;
+        t = r.seen;
         if m.at <= at {
             return m;
         }
@@ -393,7 +440,8 @@ pub fn emit_tree(s: &[u8], begins: &[usize], ends: &[usize], count: u32, p: &mut
         strings: 0,
         codes: 0,
     };
-    slots(s, begins, ends, count, p, place, n)
+    let first = grammar::look(s, q);
+    slots(s, begins, ends, count, p, place, n, first)
 }
 
 // The place of the first slot of the program frame.

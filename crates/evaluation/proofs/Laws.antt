@@ -27,6 +27,7 @@ use Rattle.heap.specs.Words.{self-held, program-held, take-frame, add-slot}
 use Rattle.heap.specs.Held.{frames-in-use, texts-in-use}
 use Rattle.heap.specs.Closed.{FrameInUse}
 use Rattle.allocation.specs.Allocation.{next-frame}
+use Rattle.allocation.specs.Known.{FullBelow}
 use Rattle.bounded.specs.Bounded.{Produced, evaluate, fill}
 use Rattle.word_store.specs.Store.{Memories, word-store, claim-frame}
 use Rattle.word_store.specs.State.{store-held}
@@ -39,6 +40,9 @@ use Rattle.evaluation.proofs.Stores.{next-is, claim-store, push-store, 
 pub claim-done : (h : List ℕ) (f : ℕ) (h′ : List ℕ) → f ≡ next-frame h → h′ ≡ take-frame h f → Claims h f h′
 unfolding claim-frame
 claim-done h f h′ ef eh = record { answer = ef; words = eh ∙ rw ef }
+
+full-after : {h t h′ t′ : List ℕ} {f n low : ℕ} → Leaves h t f n h′ t′ → FullBelow h low → FullBelow h′ low
+full-after l a = record { in-use = λ g lt. l .stay g (a .in-use g lt) }
 
 -- ---- The measure: an expression is above its slots, a slot above what follows
 
@@ -96,6 +100,9 @@ module _ (p l h t : List ℕ) (x : ℕ) (can : CanEvaluate p l h t x) (e : Expre
         texts = let q = can .room .texts in let a = signs-are in let b = left .texts in omega arith;
       };
     }
+
+    pub evaluate-full : (low : ℕ) → FullBelow h low → FullBelow h₁ low
+    evaluate-full low a = full-after left a
 
     pub evaluate-falls : (m : ℕ) → 2 * (1024 - x) ≡ m → slots-left z < m
     evaluate-falls m em = rw ez (let q = links-up x d x-small in omega arith)
@@ -190,6 +197,9 @@ module _ (p l h t : List ℕ) (f z : ℕ) (can : CanFill p l h t f z) where
           texts = let q = can .room .texts in let a = signs-in in let b = so-far .texts in omega arith;
         };
       })
+
+      pub fill-full : (low : ℕ) → FullBelow h low → FullBelow h₂ low
+      fill-full low a = full-after so-far a
 
       pub fill-on-falls : (k : ℕ) → slots-left z ≡ k → slots-left w < k
       unfolding slots-left

@@ -20,18 +20,18 @@ use Rattle.framed.specs.Machine.{Result, gives, ends, base-value, is-join, fram
 use Rattle.tables.specs.declared.ExpressionEntry.{ExpressionEntry}
 use Rattle.tables.proofs.ExpressionEntry.{the-type}
 use Rattle.tables.specs.Entries.{expression-of, expression-at}
-use Rattle.tables.specs.Fields.{expressions, expression-kind, expression-a, expression-b, literal-byte, literal-length}
+use Rattle.tables.specs.Fields.{expressions, expression-kind, expression-a, expression-b}
 use Rattle.program_form.specs.WellFormed.{WellFormed}
 use Rattle.trees.specs.Trees as trees
 use Rattle.trees.specs.Trees.{base-tree, expression-tree}
 use Rattle.trees.specs.Held as held
-use Rattle.trees.specs.Held.{base-held, expression-held, literal-bytes, OneLevel}
+use Rattle.trees.specs.Held.{base-held, expression-held, OneLevel}
 use Rattle.trees.proofs.Held.{one-level-held, not-held, operation-held}
 use Rattle.heap.specs.Words.{self-held, program-held}
 use Rattle.heap.specs.Held.{frames-held, texts-held, heap-held}
-use Rattle.texts.specs.Literals.{literal-held, literals-held}
+use Rattle.texts.specs.Literals.{literals-held}
 use Rattle.operands.specs.Operands.{operand-value}
-use Rattle.operands.proofs.Lists.{from-listed}
+use Rattle.operands.proofs.Literals.{same-literals}
 use Rattle.operators.specs.Operators.{arithmetic-of, operator-of}
 use Rattle.bounded.specs.Operations.{Product, operated}
 use Rattle.bounded.specs.Check.{operation-result}
@@ -47,15 +47,7 @@ use Rattle.evaluation.proofs.Fits.{fits-bit, operand-fits, produce-fits
 use Rattle.evaluation.specs.Evaluation.{strings, CanEvaluate, Flat, Evaluates}
 use Rattle.evaluation.proofs.Stores.{heap-is, frames-are}
 
--- ---- The string literals, and the operators
-
-literal-same : (p l : List ℕ) (k : ℕ) → literal-bytes p l k ≡ literal-held p l k
-unfolding literal-bytes literal-held
-literal-same p l k = from-listed (literal-byte l k) (literal-byte l k) 0 (λ i. let e : 0 + i ≡ i = omega arith in ap (literal-byte l k) e) (literal-length p k)
-
-pub strings-are : (p l : List ℕ) → strings p l ≡ literals-held p l
-unfolding held.program-held literals-held
-strings-are p l = from-listed (literal-bytes p l) (literal-held p l) 0 (λ k. let e : 0 + k ≡ k = omega arith in ap (literal-bytes p l) e ∙ literal-same p l k) _
+-- ---- The operators
 
 -- the operator of a kind, as both read it
 operators-agree : (k : ℕ) → 7 ≤ k → trees.operator-of k ≡ operator-of k
@@ -102,7 +94,7 @@ module _ (p l h t : List ℕ) (x : ℕ) (w : Writable p l h t) (there : x < expr
   is-base : (e : ExpressionEntry) → expression-at p x ≡ e → expression-tree (held.held p) p x e ≡ Expression.base (base-tree (held.held p) p e) → tree ≡ Expression.base (base-held p x)
   is-base e is q = one .expression x there ∙ rw is (q ∙ ap Expression.base (sym (rw is at (one .base x there))))
 
-  read-made : (e : ExpressionEntry) → expression-at p x ≡ e → ((d : ℕ) → e ≡ ExpressionEntry.Frame d → ⊥) → OneOf (0 ∷ 1 ∷ 2 ∷ 3 ∷ 4 ∷ 5 ∷ 6 ∷ 8 ∷ []) (tagOf the-type e) → Evaluates p l h t x (read-entry p h x e) h t
+  pub read-made : (e : ExpressionEntry) → expression-at p x ≡ e → ((d : ℕ) → e ≡ ExpressionEntry.Frame d → ⊥) → OneOf (0 ∷ 1 ∷ 2 ∷ 3 ∷ 4 ∷ 5 ∷ 6 ∷ 8 ∷ []) (tagOf the-type e) → Evaluates p l h t x (read-entry p h x e) h t
   unfolding read-entry expression-tree base-tree
   read-made (ExpressionEntry.Integer k) is nf o = still _ _ (is-base (ExpressionEntry.Integer k) is refl) base-made (operand-fits p l h (w .program) x there)
   read-made (ExpressionEntry.Literal k) is nf o = still _ _ (is-base (ExpressionEntry.Literal k) is refl) base-made (operand-fits p l h (w .program) x there)
@@ -151,17 +143,24 @@ operate-kind : (p : List ℕ) (x k a b : ℕ) → expression-at p x ≡ Expressi
 unfolding expression-at
 operate-kind p x k a b e = rw e at (kind-least (expression-kind p x) (expression-a p x) (expression-b p x))
 
+module _ (p l : List ℕ) (w : WellFormed p l) (x : ℕ) (there : x < expressions p) (k a b : ℕ) (is : expression-at p x ≡ ExpressionEntry.Operate k a b) where
+  operation-tree : expression-held p x ≡ Expression.operation (operator-of k) (base-held p a) (base-held p b)
+  operation-tree = operation-held p l w x there k a b is ∙ rw (operators-agree k (operate-kind p x k a b is))
+
+  pub operation-frames : frame-literals (expression-held p x) ≡ 0
+  unfolding frame-literals
+  operation-frames = rw operation-tree
+
+  pub operation-signs : join-signs (expression-held p x) ≡ is-join (operator-of k)
+  unfolding join-signs
+  operation-signs = rw operation-tree
+
 module _ (p l h t : List ℕ) (x : ℕ) (can : CanEvaluate p l h t x) (k a b : ℕ) (is : expression-at p x ≡ ExpressionEntry.Operate k a b) where
   tree-is : expression-held p x ≡ Expression.operation (operator-of k) (base-held p a) (base-held p b)
-  tree-is = operation-held p l (can .writable .program) x (can .there) k a b is ∙ rw (operators-agree k (operate-kind p x k a b is))
-
-  no-frames : frame-literals (expression-held p x) ≡ 0
-  unfolding frame-literals
-  no-frames = rw tree-is
+  tree-is = operation-tree p l (can .writable .program) x (can .there) k a b is
 
   signs : join-signs (expression-held p x) ≡ is-join (operator-of k)
-  unfolding join-signs
-  signs = rw tree-is
+  signs = operation-signs p l (can .writable .program) x (can .there) k a b is
 
   can-operate : CanProduce p l h t k
   can-operate = record {
@@ -172,7 +171,7 @@ module _ (p l h t : List ℕ) (x : ℕ) (can : CanEvaluate p l h t x) (k a b : �
   results-agree : operation-result (strings p l) (self-held h) (program-held h) (heap-in word-store (store-held h t)) (operator-of k) (base-held p a) (base-held p b)
       ≡ producing.operation-held p l h t k a b
   unfolding operation-result producing.operation-held operand-value heap-held
-  results-agree = rw (strings-are p l, heap-is h t)
+  results-agree = rw (same-literals p l, heap-is h t)
 
   operation-modest : Modest (is-join (operator-of k)) (producing.operation-held p l h t k a b)
   unfolding producing.operation-held M._>>=_
@@ -183,7 +182,7 @@ module _ (p l h t : List ℕ) (x : ℕ) (can : CanEvaluate p l h t x) (k a b : �
       go (gives v) (ends e) = an-end
       go (gives v) (gives w) = operated-modest (literals-held p l) (texts-held h t) (operator-of k) v w
 
-  operation-made : (r : Value) (h′ t′ : List ℕ) → producing.Operates p l h t k a b r h′ t′ → Evaluates p l h t x r h′ t′
+  pub operation-made : (r : Value) (h′ t′ : List ℕ) → producing.Operates p l h t k a b r h′ t′ → Evaluates p l h t x r h′ t′
   unfolding evaluate
   operation-made r h′ t′ m =
       let v = m .leaves in

@@ -64,7 +64,7 @@ program-kept k = same-program (same-part (as-same k) 2 4 (omega arith) (omega ar
 
 -- ---- What is left
 
-full-frame : (h : List ℕ) (f x : ℕ) (v : Value) → 16 ≤ slot-count-at h f → add-slot h f x v ≡ h
+pub full-frame : (h : List ℕ) (f x : ℕ) (v : Value) → 16 ≤ slot-count-at h f → add-slot h f x v ≡ h
 unfolding add-slot
 full-frame h f x v le = rw (le-leb 16 (slot-count-at h f) le)
 

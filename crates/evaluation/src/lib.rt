@@ -1,13 +1,15 @@
 // The value of an expression, which makes its frames and texts: the last part of a step, after reserve and check.
 use framed::Value;
 use tables::ExpressionEntry;
+ghost use Rattle.allocation.specs.Known.{FullBelow};
 ghost use Rattle.evaluation.specs.Evaluation.{Claims, CanEvaluate, Flat, Evaluates, CanFill, Fills};
 
-// The lowest frame not in use is taken, without slots.
-pub fn claim(h: &mut [u32]) -> u32
+// The lowest frame not in use is taken, without slots; those below `low` are in use.
+pub fn claim(h: &mut [u32], low: u32) -> u32
+    requires { ⌜ FullBelow (now h) low ⌝ }
     ensures { λ r. ⌜ Claims (now (h .entry)) r (now (h .exit)) ⌝ }
 {
-    let f = allocation::lowest_frame(h);
+    let f = allocation::lowest_frame(h, low);
     heap::take_frame(h, f);
     f
 }
@@ -24,28 +26,30 @@ pub fn flat(p: &[u32], l: &[u8], h: &mut [u32], t: &mut [u8], x: u32) -> Value
 }
 
 // The value of an expression. A frame literal claims its frame first, then its slots are filled in.
-pub fn evaluate(p: &[u32], l: &[u8], h: &mut [u32], t: &mut [u8], x: u32) -> Value
+pub fn evaluate(p: &[u32], l: &[u8], h: &mut [u32], t: &mut [u8], x: u32, low: u32) -> Value
     requires { ⌜ CanEvaluate (now p) (now l) (now h) (now t) x ⌝ }
+    requires { ⌜ FullBelow (now h) low ⌝ }
     ensures { λ r. ⌜ Evaluates (now (p .entry)) (now (l .entry)) (now (h .entry)) (now (t .entry)) x r (now (h .exit)) (now (t .exit)) ⌝ }
 {
     let ExpressionEntry::Frame(d) = tables::expression_at(p, x) else {
         return flat(p, l, h, t, x);
     };
-    let f = claim(h);
-    fill(p, l, h, t, f, tables::link(1024, x, d));
+    let f = claim(h, low);
+    fill(p, l, h, t, f, tables::link(1024, x, d), low);
     Value::Frame(f)
 }
 
 // The slots from the place z on: each is evaluated, then pushed on frame f.
-pub fn fill(p: &[u32], l: &[u8], h: &mut [u32], t: &mut [u8], f: u32, z: u32)
+pub fn fill(p: &[u32], l: &[u8], h: &mut [u32], t: &mut [u8], f: u32, z: u32, low: u32)
     requires { ⌜ CanFill (now p) (now l) (now h) (now t) f z ⌝ }
+    requires { ⌜ FullBelow (now h) low ⌝ }
     ensures { λ _. ⌜ Fills (now (p .entry)) (now (l .entry)) (now (h .entry)) (now (t .entry)) f z (now (h .exit)) (now (t .exit)) ⌝ }
 {
     if z == 0 {
         return;
     }
     let y = z - 1;
-    let v = evaluate(p, l, h, t, y);
+    let v = evaluate(p, l, h, t, y, low);
     heap::add_slot(h, f, tables::slot_name(p, y), v);
-    fill(p, l, h, t, f, tables::slot_after(p, y));
+    fill(p, l, h, t, f, tables::slot_after(p, y), low);
 }

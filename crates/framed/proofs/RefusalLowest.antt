@@ -47,7 +47,7 @@ unfolding lowest
 found-later n k true bs l f = (omega arith, omega arith)
 found-later n k false bs l f = f
 
-lowest-bound : (n : ℕ) (bs : List Bool) → lowest (suc n) bs ≤ n + length bs
+pub lowest-bound : (n : ℕ) (bs : List Bool) → lowest (suc n) bs ≤ n + length bs
 unfolding lowest
 lowest-bound n [] = omega arith
 lowest-bound n (true ∷ bs) = omega arith

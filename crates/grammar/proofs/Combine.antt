@@ -4,6 +4,7 @@ use mathlib.Core.List.{List, [], _∷_}
 use mathlib.Core.Option.{none}
 use Prim.Native.Nat.{ℕ, suc, _-_, _<_, _≤_}
 use native.Mathlib.Omega.{arith}
+use lib.IntN.{ℤ}
 use lib.ListN.{length}
 use borrow.Author.Tests.{eq-eqb, ne-eqb}
 use types.Run.{OneOf, miss}
@@ -16,9 +17,10 @@ use Rattle.framed.specs.Parse.{Parsed, fails, parsed, Reader, give, _or_, this,
 use Rattle.framed.specs.Parse as P
 use Rattle.framed.proofs.TokensExact.{end≢token, no-token≢token, rest-inj}
 use Rattle.framed.proofs.ParseExact.{bind-out, then-out, bind-fails, then-fails, or-first, or-second}
-use Rattle.source.specs.Positions.{rest}
-use Rattle.token.specs.Reading.{meant, token-of, fixed-kind, token-kind, TokenAt, Spot}
+use Rattle.source.specs.Positions.{rest, part}
+use Rattle.token.specs.Reading.{signed, meant, token-of, fixed-kind, token-kind, TokenAt, Spot}
 use Rattle.token.proofs.KindNumbers.{kind-is}
+use Rattle.token.proofs.Unique.{token-inj}
 use Rattle.token.proofs.Answers.{spot-of}
 use Rattle.token.specs.declared.TokenRead.{TokenRead}
 use Rattle.token.proofs.TokenRead.{the-type}
@@ -94,8 +96,11 @@ numbered-head s table k c p (Token.string w) ts d = head (suc k) c refl d refl
 numbered-head s table k c p Token.code ts d = head k (suc c) refl d refl
 numbered-head s table k c p (Token.fixed f) ts d = head k c refl d refl
 
-token-inj : {t u : Token} {r q : List ℕ} → token t r ≡ token u q → t ≡ u
-token-inj e = cc
+integer-inj : {z w : ℤ} → Token.integer z ≡ Token.integer w → z ≡ w
+integer-inj e = cc
+
+name-inj : {v w : List ℕ} → Token.name v ≡ Token.name w → v ≡ w
+name-inj e = cc
 
 module _ (s : List ℕ) (at kk a p w : ℕ) (known : kk < 29) (e : next class (rest s at) ≡ token (token-of s kk a p w) (rest s p)) where
   head-of : (table : List (List ℕ)) (k c : ℕ) (ts : List Token) → Tokens⊢ class (rest s at) ts → Head s table p kk (numbered table k c ts)
@@ -117,8 +122,32 @@ module _ (s : List ℕ) (at : ℕ) (t : TokenRead) (says : TokenAt class s at t)
   pub kind-none : OneOf (0 ∷ 1 ∷ []) (tagOf the-type t) → KindAt s at 29
   kind-none o = record { is = nothing s at t says o }
 
-  pub see-none : (e : ℕ) → OneOf (0 ∷ 1 ∷ []) (tagOf the-type t) → Sees s at (record { kind = 29; end = e })
-  see-none e o = record { kind-is = kind-none o; end-is = λ lo hi l h m. absurd (omega arith) }
+  no-first : OneOf (0 ∷ 1 ∷ []) (tagOf the-type t) → (u : Token) (ts : List Token) → Tokens⊢ class (rest s at) (u ∷ ts) → ⊥
+  unfolding front-kind numbered kind-of
+  no-first o u ts d = known u (kind-none o .is [] 0 0 (u ∷ ts) d)
+    where
+      fixed : (f : Fixed) → fixed-kind f ≡ 29 → ⊥
+      fixed f e = omega (arith, fixed-below f)
+
+      known : (u : Token) → front-kind (numbered [] 0 0 (u ∷ ts)) ≡ 29 → ⊥
+      known (Token.name w) e = omega arith
+      known (Token.integer z) e = omega arith
+      known (Token.string w) e = omega arith
+      known Token.code e = omega arith
+      known (Token.fixed f) e = fixed f e
+
+  pub see-none : OneOf (0 ∷ 1 ∷ []) (tagOf the-type t) → Sees s at (record { kind = 29; word = 0; begin = at; end = at })
+  see-none o = record {
+    kind-is = kind-none o;
+    word-is = λ z ts d. absurd (no-first o (Token.integer z) ts d);
+    word-small = omega arith;
+    name-is = λ w ts d. absurd (no-first o (Token.name w) ts d);
+    on = omega arith;
+    inside = λ l. absurd (omega arith);
+    further = λ u ts d. absurd (no-first o u ts d);
+    reads = λ u ts d. absurd (no-first o u ts d);
+    end-is = λ lo hi l h m. absurd (omega arith);
+  }
 
   pub expect-none : (lo hi : ℕ) → KindsOk lo hi → OneOf (0 ∷ 1 ∷ []) (tagOf the-type t) → Expects s lo hi at Found.Refused
   expect-none lo hi ok o = record {
@@ -159,8 +188,37 @@ module _ (s : List ℕ) (at : ℕ) (t : TokenRead) (says : TokenAt class s at t)
       on = Moved.moves {p = p} (omega (arith, spot .begins, spot .more)) (spot .inside);
     }
 
-    pub see-some : Sees s at (record { kind = kk; end = p })
-    see-some = record { kind-is = kind-some; end-is = λ lo hi l h m. expect-one lo hi l h }
+    -- the first token is the one that is meant
+    is-first : (u : Token) (ts : List Token) → Tokens⊢ class (rest s at) (u ∷ ts) → (u ≡ token-of s kk a p w) × Tokens⊢ class (rest s p) ts
+    unfolding meant
+    is-first u ts (Tokens⊢.more e d) = let h = sym e ∙ says .says ∙ ap (meant s) f in (token-inj h, rw (rest-inj h) at d)
+
+    word-meant : (z : ℤ) → Token.integer z ≡ token-of s kk a p w → signed w ≡ z
+    unfolding token-of token-kind
+    word-meant z e = sym (integer-inj (e ∙ rw kind))
+      where
+        kind : kk ≡ 26
+        kind = sym (kind-is s a p w kk (spot .known)) ∙ ap token-kind (sym e)
+
+    name-meant : (v : List ℕ) → Token.name v ≡ token-of s kk a p w → part s a p ≡ v
+    unfolding token-of token-kind
+    name-meant v e = sym (name-inj (e ∙ rw kind))
+      where
+        kind : kk ≡ 25
+        kind = sym (kind-is s a p w kk (spot .known)) ∙ ap token-kind (sym e)
+
+    pub see-some : w < 4294967296 → Sees s at (record { kind = kk; word = w; begin = a; end = p })
+    see-some l = record {
+      kind-is = kind-some;
+      word-is = λ z ts d. word-meant z (is-first (Token.integer z) ts d .0);
+      word-small = l;
+      name-is = λ v ts d. name-meant v (is-first (Token.name v) ts d .0);
+      on = omega (arith, spot .begins, spot .more);
+      inside = λ l. omega (arith, spot .begins, spot .more, spot .inside);
+      further = λ u ts d. omega (arith, spot .begins, spot .more);
+      reads = λ u ts d. is-first u ts d .1;
+      end-is = λ lo hi l h m. expect-one lo hi l h;
+    }
 
 -- ---- Readers of one symbol
 

@@ -150,7 +150,7 @@ module _ (s : List ℕ) (at : ℕ) (x : Found) (ex : Expects s 9 9 at x) where
   unfolding negation fixed-number
   negation-1 e = record { says = λ n l. stop-then s (this Fixed.bang) at x e (this-at Fixed.bang (omega arith) s at x ex) _; on = Onward.stops }
 
-  pub negation-falls : (p : ℕ) → x ≡ Found.Done p → (t : ℕ) → 8 * (length s - at) + 0 ≡ t → 8 * (length s - p) + 1 < t
+  pub negation-falls : (p : ℕ) → x ≡ Found.Done p → (t : ℕ) → 8 * (length s - at) + 0 ≡ t → 8 * (length s - p) + 2 < t
   negation-falls p e t h = omega (arith, moved x (ex .on) e)
 
   pub negation-2 : (p : ℕ) → x ≡ Found.Done p → (y : Found) → Meets a-base 1 s p y → Meets negation 0 s at y
@@ -169,7 +169,7 @@ module _ (s : List ℕ) (at : ℕ) (x : Found) (ex : Expects s 16 24 at x) where
   operation-1 e = record { says = λ a n l. or-nothing s _ _ at (stop-on s an-operator at x e operator-runs _); on = here at }
 
   module _ (p : ℕ) (e : x ≡ Found.Done p) where
-    pub operation-falls : (t : ℕ) → 8 * (length s - at) + 0 ≡ t → 8 * (length s - p) + 1 < t
+    pub operation-falls : (t : ℕ) → 8 * (length s - at) + 0 ≡ t → 8 * (length s - p) + 2 < t
     operation-falls t h = omega (arith, moved x (ex .on) e)
 
     module _ (y : Found) (m : Meets a-base 1 s p y) where
@@ -193,7 +193,7 @@ module _ (s : List ℕ) (at : ℕ) (x : Found) (mx : Meets a-base 1 s at x) wher
   unfolding binary
   binary-1 e = record { says = λ n l. stop-on s (a-base n) at x e (mx .says n (omega arith)) _; on = Onward.stops }
 
-  pub binary-falls : (p : ℕ) → x ≡ Found.Done p → (t : ℕ) → 8 * (length s - at) + 2 ≡ t → 8 * (length s - p) + 0 < t
+  pub binary-falls : (p : ℕ) → x ≡ Found.Done p → (t : ℕ) → 8 * (length s - at) + 3 ≡ t → 8 * (length s - p) + 0 < t
   binary-falls p e t h = omega (arith, went x (mx .on) e)
 
   pub binary-2 : (p : ℕ) → x ≡ Found.Done p → (y : Found) → MeetsAll operation 0 s p y → Meets binary 2 s at y
@@ -332,7 +332,7 @@ module _ (s : List ℕ) (at i : ℕ) (c : Continues slots 0 s at i) where
         behind : (i < q) × (q ≤ length s)
         behind = (omega (arith, moved x (ex .on) e, moved y (ey .on) f), moved y (ey .on) f .1)
 
-        pub slots-falls : (t : ℕ) → 8 * (length s - at) + 0 ≡ t → 8 * (length s - q) + 3 < t
+        pub slots-falls : (t : ℕ) → 8 * (length s - at) + 0 ≡ t → 8 * (length s - q) + 4 < t
         slots-falls t h = omega (arith, behind, c .on)
 
         module _ (z : Found) (mz : Meets an-expression 3 s q z) where
@@ -383,7 +383,7 @@ module _ (s : List ℕ) (at : ℕ) (x : Found) (ex : Expects s 2 2 at x) where
   unfolding showing fixed-number
   show-1 e = record { says = λ n l. stop-then s (this Fixed.show) at x e (this-at Fixed.show (omega arith) s at x ex) _; on = Onward.stops }
 
-  pub show-falls : (p : ℕ) → x ≡ Found.Done p → (t : ℕ) → 8 * (length s - at) + 0 ≡ t → 8 * (length s - p) + 1 < t
+  pub show-falls : (p : ℕ) → x ≡ Found.Done p → (t : ℕ) → 8 * (length s - at) + 0 ≡ t → 8 * (length s - p) + 2 < t
   show-falls p e t h = omega (arith, moved x (ex .on) e)
 
   pub show-2 : (p : ℕ) → x ≡ Found.Done p → (y : Found) → Meets a-base 1 s p y → Meets showing 0 s at y
@@ -403,7 +403,7 @@ module _ (s : List ℕ) (at : ℕ) (x : Found) (ex : Expects s 3 3 at x) where
   jump-1 e = record { says = λ n l. stop-then s (this Fixed.jump) at x e jump-runs _; on = Onward.stops }
 
   module _ (p : ℕ) (e : x ≡ Found.Done p) where
-    pub jump-falls : (t : ℕ) → 8 * (length s - at) + 0 ≡ t → 8 * (length s - p) + 1 < t
+    pub jump-falls : (t : ℕ) → 8 * (length s - at) + 0 ≡ t → 8 * (length s - p) + 2 < t
     jump-falls t h = omega (arith, moved x (ex .on) e)
 
     module _ (y : Found) (my : Meets a-base 1 s p y) where
@@ -412,7 +412,7 @@ module _ (s : List ℕ) (at : ℕ) (x : Found) (ex : Expects s 3 3 at x) where
       jump-2 f = record { says = λ n l. go-then s (this Fixed.jump) at p x Found.Refused e jump-runs _ (stop-on s (a-base n) p y f (my .says n (omega (arith, moved x (ex .on) e))) _); on = Onward.stops }
 
       module _ (q : ℕ) (f : y ≡ Found.Done q) where
-        pub jump-falls-2 : (t : ℕ) → 8 * (length s - at) + 0 ≡ t → 8 * (length s - q) + 1 < t
+        pub jump-falls-2 : (t : ℕ) → 8 * (length s - at) + 0 ≡ t → 8 * (length s - q) + 2 < t
         jump-falls-2 t h = omega (arith, moved x (ex .on) e, went y (my .on) f)
 
         pub jump-3 : (z : Found) → Meets a-base 1 s q z → Meets jumping 0 s at z
@@ -433,7 +433,7 @@ module _ (s : List ℕ) (at : ℕ) (x : Found) (ex : Expects s 4 4 at x) where
   ifeq-1 e = record { says = λ n l. stop-then s (this Fixed.ifeq) at x e ifeq-runs _; on = Onward.stops }
 
   module _ (p : ℕ) (e : x ≡ Found.Done p) where
-    pub ifeq-falls : (t : ℕ) → 8 * (length s - at) + 0 ≡ t → 8 * (length s - p) + 1 < t
+    pub ifeq-falls : (t : ℕ) → 8 * (length s - at) + 0 ≡ t → 8 * (length s - p) + 2 < t
     ifeq-falls t h = omega (arith, moved x (ex .on) e)
 
     module _ (y : Found) (my : Meets a-base 1 s p y) where
@@ -442,7 +442,7 @@ module _ (s : List ℕ) (at : ℕ) (x : Found) (ex : Expects s 4 4 at x) where
       ifeq-2 f = record { says = λ n l. go-then s (this Fixed.ifeq) at p x Found.Refused e ifeq-runs _ (stop-on s (a-base n) p y f (my .says n (omega (arith, moved x (ex .on) e))) _); on = Onward.stops }
 
       module _ (q : ℕ) (f : y ≡ Found.Done q) where
-        pub ifeq-falls-2 : (t : ℕ) → 8 * (length s - at) + 0 ≡ t → 8 * (length s - q) + 1 < t
+        pub ifeq-falls-2 : (t : ℕ) → 8 * (length s - at) + 0 ≡ t → 8 * (length s - q) + 2 < t
         ifeq-falls-2 t h = omega (arith, moved x (ex .on) e, went y (my .on) f)
 
         module _ (z : Found) (mz : Meets a-base 1 s q z) where
@@ -455,7 +455,7 @@ module _ (s : List ℕ) (at : ℕ) (x : Found) (ex : Expects s 4 4 at x) where
           }
 
           module _ (u : ℕ) (g : z ≡ Found.Done u) where
-            pub ifeq-falls-3 : (t : ℕ) → 8 * (length s - at) + 0 ≡ t → 8 * (length s - u) + 1 < t
+            pub ifeq-falls-3 : (t : ℕ) → 8 * (length s - at) + 0 ≡ t → 8 * (length s - u) + 2 < t
             ifeq-falls-3 t h = omega (arith, moved x (ex .on) e, went y (my .on) f, went z (mz .on) g)
 
             pub ifeq-4 : (w : Found) → Meets a-base 1 s u w → Meets branching 0 s at w
@@ -478,7 +478,7 @@ module _ (s : List ℕ) (at : ℕ) (x : Found) (mx : Reads a-path s at x) where
     assign-2 f = record { says = λ n l. go-on s a-path at p x Found.Refused e (mx .says) _ (λ a. stop-then s (this Fixed.assign) p y f (this-at Fixed.assign (omega arith) s p y ey) _); on = Onward.stops }
 
     module _ (q : ℕ) (f : y ≡ Found.Done q) where
-      pub assign-falls : (t : ℕ) → 8 * (length s - at) + 0 ≡ t → 8 * (length s - q) + 3 < t
+      pub assign-falls : (t : ℕ) → 8 * (length s - at) + 0 ≡ t → 8 * (length s - q) + 4 < t
       assign-falls t h = omega (arith, went x (mx .on) e, moved y (ey .on) f)
 
       pub assign-3 : (z : Found) → Meets an-expression 3 s q z → Meets assigning 0 s at z

@@ -5,13 +5,15 @@ use mathlib.Core.List.{List, _∷_}
 use mathlib.Core.Bool.{Bool, not}
 use mathlib.Core.Option.{some}
 use Prim.Native.Nat.{ℕ, _+_, _*_, _-_, _<_, _≤_}
+use lib.IntN.{ℤ}
 use lib.ListN.{length}
 use Rattle.framed.specs.Bytes.{class}
 use Rattle.framed.specs.Tokens.{Token, Tokens⊢, tokens}
 use Rattle.framed.specs.Symbols.{Symbol, numbered, symbols}
 use Rattle.framed.specs.Parse.{Parsed, fails, parsed, Reader, parse}
 use Rattle.framed.specs.Meaning.{is-none}
-use Rattle.source.specs.Positions.{rest}
+use Rattle.source.specs.Positions.{rest, part}
+use Rattle.token.specs.Reading.{signed}
 use Rattle.sweep.specs.Kinds.{kind-of, front-kind}
 use Rattle.grammar.specs.declared.Found.{Found}
 use Rattle.grammar.specs.declared.Seen.{Seen}
@@ -71,9 +73,16 @@ pub record Expects (s : List ℕ) (lo hi at : ℕ) (r : Found) : Type 0 where
 pub record KindsOk (lo hi : ℕ) : Type 0 where
   pub known : hi < 29
 
--- the token that stands at `at`: its kind, and where it ends
+-- the token that stands at `at`: its kind, the word of an integer, where a name begins, and where it ends
 pub record Sees (s : List ℕ) (at : ℕ) (t : Seen) : Type 0 where
   pub kind-is : KindAt s at (t .kind)
+  pub word-is : (z : ℤ) (ts : List Token) → Tokens⊢ class (rest s at) (Token.integer z ∷ ts) → signed (t .word) ≡ z
+  pub word-small : t .word < 4294967296
+  pub name-is : (w : List ℕ) (ts : List Token) → Tokens⊢ class (rest s at) (Token.name w ∷ ts) → part s (t .begin) (t .end) ≡ w
+  pub on : at ≤ t .end
+  pub inside : at < t .end → at < length s
+  pub further : (u : Token) (ts : List Token) → Tokens⊢ class (rest s at) (u ∷ ts) → at < t .end
+  pub reads : (u : Token) (ts : List Token) → Tokens⊢ class (rest s at) (u ∷ ts) → Tokens⊢ class (rest s (t .end)) ts
   pub end-is : (lo hi : ℕ) → lo ≤ t .kind → t .kind ≤ hi → hi < 29 → Expects s lo hi at (Found.Done (t .end))
 
 -- a function outside the cycle that reads at least one token

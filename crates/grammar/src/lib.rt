@@ -39,20 +39,32 @@ pub fn kind_at(s: &[u8], at: usize) -> u32
     k
 }
 
-// The token that stands there: its kind, 29 where there is none, and where it ends.
+// The token that stands there: its kind, 29 where there is none, the word of an integer, and where it begins and ends.
 pub struct Seen {
     pub kind: u32,
+    pub word: u32,
+    pub begin: usize,
     pub end: usize,
 }
 
-fn look(s: &[u8], at: usize) -> Seen
+pub fn look(s: &[u8], at: usize) -> Seen
     ensures { λ r. ⌜ Sees (now (s .entry)) at r ⌝ }
 {
     let t = token::token_at(s, at);
     let TokenRead::Token(k, a, p, w) = t else {
-        return Seen { kind: 29, end: at };
+        return Seen {
+            kind: 29,
+            word: 0,
+            begin: at,
+            end: at,
+        };
     };
-    Seen { kind: k, end: p }
+    Seen {
+        kind: k,
+        word: w,
+        begin: a,
+        end: p,
+    }
 }
 
 fn dot_name(s: &[u8], at: usize) -> Found
@@ -149,11 +161,11 @@ fn block(s: &[u8], at: usize) -> Found
     expect(s, u, 15, 15)
 }
 
-// Integer, string, path or code.
-pub fn base(s: &[u8], at: usize) -> Found
+// A base whose first token is t: integer, string, path or code.
+pub fn base_from(s: &[u8], at: usize, t: Seen) -> Found
+    requires { ⌜ Sees (now s) at t ⌝ }
     ensures { λ r. ⌜ Meets a-base 1 (now (s .entry)) at r ⌝ }
 {
-    let t = look(s, at);
     if t.kind == 28 {
         return block(s, at);
     }
@@ -164,6 +176,14 @@ pub fn base(s: &[u8], at: usize) -> Found
         return Found::Done(t.end);
     }
     Found::Refused
+}
+
+// A base.
+fn base(s: &[u8], at: usize) -> Found
+    ensures { λ r. ⌜ Meets a-base 1 (now (s .entry)) at r ⌝ }
+{
+    let t = look(s, at);
+    base_from(s, at, t)
 }
 
 // `!` base

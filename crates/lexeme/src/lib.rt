@@ -31,15 +31,15 @@ fn in_run(t: &[u8; 256], b: u8, m: u8) -> bool
 }
 
 // Where a run ends.
-pub fn run_end(s: &[u8], at: usize, m: u8) -> usize
+pub fn run_end(t: &[u8; 256], s: &[u8], at: usize, m: u8) -> usize
+    requires { ⌜ Classified (now t) ⌝ }
     ensures { λ r. ⌜ RunEnds class (now (s .entry)) m at r ⌝ }
 {
-    let classes = source::classes();
     let mut i = at;
     while i < s.len() {
         let b = source::byte_at(s, i);
-        let t = in_run(&classes, b, m);
-        if !t {
+        let inside = in_run(t, b, m);
+        if !inside {
             return i;
         }
         i += 1;

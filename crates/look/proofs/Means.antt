@@ -20,15 +20,15 @@ use Rattle.framed.specs.Values.{text-bytes}
 use Rattle.framed.specs.Machine.{State}
 use Rattle.framed.specs.Calls.{read-path, look-from, kind, look, text-in, look-text}
 use Rattle.words.specs.Words.{pick}
-use Rattle.tables.specs.Fields.{literals, literal-length, literal-byte}
+use Rattle.tables.specs.Fields.{literals, literal-length}
 use Rattle.heap.specs.Words.{text-length}
 use Rattle.heap.specs.Held.{heap-held, texts-held}
-use Rattle.texts.specs.Literals.{literal-held, literals-held}
+use Rattle.texts.specs.Literals.{literals-held}
 use Rattle.texts.specs.Texts.{part-of, LiteralsInside, TextsInside}
 use Rattle.texts.proofs.Laws as texts
 use Rattle.texts.proofs.Inside.{literals-inside, texts-inside}
-use Rattle.operands.proofs.Lists.{from-listed}
-use Rattle.trees.specs.Held.{literal-bytes, program-held}
+use Rattle.operands.proofs.Literals.{same-literals}
+use Rattle.trees.specs.Held.{program-held}
 use Rattle.state_form.proofs.Facts.{well-formed-sized}
 use Rattle.wellformed.specs.WellFormed.{WellFormed, well-formed}
 use Rattle.wellformed.specs.Held.{state-held}
@@ -76,15 +76,6 @@ look-is-fetch p h l t path = record {
 }
 
 -- ---- The companion
-
--- the program's literals, as the crate `texts` reads them
-same-literal : (p l : List ℕ) (k : ℕ) → literal-bytes p l k ≡ literal-held p l k
-unfolding literal-bytes literal-held
-same-literal p l k = from-listed (literal-byte l k) (literal-byte l k) 0 (λ i. let e : 0 + i ≡ i = omega arith in ap (literal-byte l k) e) (literal-length p k)
-
-same-literals : (p l : List ℕ) → program-held p l .literals ≡ literals-held p l
-unfolding program-held literals-held
-same-literals p l = from-listed (literal-bytes p l) (literal-held p l) 0 (λ k. let e : 0 + k ≡ k = omega arith in ap (literal-bytes p l) e ∙ same-literal p l k) (literals p)
 
 no-bytes : (l t : List ℕ) → bytes-in l t no-part ≡ []
 unfolding bytes-in part-of

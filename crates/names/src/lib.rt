@@ -85,12 +85,13 @@ fn note(
 pub fn many_names(s: &[u8]) -> bool
     ensures { λ r. ⌜ ManyNames (now (s .entry)) r ⌝ }
 {
+    let classes = source::classes();
     let mut begins = [0usize; 129];
     let mut ends = [0usize; 129];
     let mut n = 0;
     let mut at = 0;
     while at < s.len() {
-        match token::token_at(s, at) {
+        match token::token_in(&classes, s, at) {
             TokenRead::End => {
                 return false;
             }

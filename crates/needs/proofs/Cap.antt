@@ -11,7 +11,7 @@ pub cap-small : (n : ℕ) → n < 257 → cap n ≡ n
 unfolding cap
 cap-small n lt = rw (lt-ltb n 257 lt)
 
-cap-large : (n : ℕ) → 257 ≤ n → cap n ≡ 257
+pub cap-large : (n : ℕ) → 257 ≤ n → cap n ≡ 257
 unfolding cap
 cap-large n le = rw (le-ltb n 257 le)
 

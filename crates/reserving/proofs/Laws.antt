@@ -1,36 +1,170 @@
--- What each way through room_end and reserve gives. Assumes nothing.
-use Prim.Native.Nat.{ℕ, _+_}
+-- What each way through add, seek and reserve gives. Assumes nothing.
+use Prim.Native.Nat.{ℕ, _+_, _≤_, _<_}
 use mathlib.Core.Path.{_≡_, refl, _∙_, ap, sym}
 use mathlib.Core.List.{List}
 use mathlib.Core.Bool.{Bool, true, false}
+use native.Mathlib.Omega.{arith}
+use native.Mathlib.Decide.{decLt}
 use lib.Dec.{ltb}
 use lib.ListN.{length}
-use borrow.Author.Tests.{eq-eqb, ne-eqb}
+use borrow.Author.Tests.{lt-ltb, le-ltb, eq-eqb, ne-eqb}
+use Rattle.words.specs.Words.{pick}
 use Rattle.framed.specs.declared.Totals.{Totals}
 use Rattle.tables.specs.Fields.{frame-limit, text-limit}
 use Rattle.heap.specs.Held.{frames-in-use, texts-in-use}
-use Rattle.collector.specs.Collect.{Collection, collection, collect-heap}
-use Rattle.reserving.specs.Reserving.{room-end-held, reserved-words, Reserves}
+use Rattle.allocation.specs.declared.Known.{Known}
+use Rattle.allocation.specs.Allocation.{next-frame}
+use Rattle.allocation.specs.Known.{FullBelow, Knows}
+use Rattle.allocation.proofs.Laws.{none-below, next-full}
+use Rattle.collector.specs.Collect.{Collection, collection, in-use-totals, collect-heap}
+use Rattle.reserving.specs.declared.Reserved.{Reserved}
+use Rattle.reserving.specs.Reserving.{room-end-held, reserved-words, Reserves, added, Sought, Reckons}
 
-module _ (p h : List ℕ) (f n F : ℕ) (b : Bool) (eF : F ≡ frame-limit p) (eb : b ≡ ltb F (length (frames-in-use h) + f)) where
-  pub no-frames : b ≡ true → 36 ≡ room-end-held p h f n
+-- ---- add
+
+module _ (p : List ℕ) (f n : ℕ) (k : Known) (F₀ F a b : ℕ) (e₀ : F₀ ≡ frame-limit p) (eF : F ≡ F₀) (ea : a ≡ k .frames) (eb : b ≡ f) where
+  pub add-no-frames : F < a + b → _≡_ {A = Reserved} (record { end = 36; known = k }) (added p f n k)
+  unfolding added
+  add-no-frames lt = rw (← e₀, ← eF, ← ea, ← eb, lt-ltb F (a + b) lt)
+
+  module _ (le : a + b ≤ F) (T₀ T c d : ℕ) (u₀ : T₀ ≡ text-limit p) (eT : T ≡ T₀) (ec : c ≡ k .texts) (ed : d ≡ n) where
+    pub add-no-texts : T < c + d → _≡_ {A = Reserved} (record { end = 37; known = k }) (added p f n k)
+    unfolding added
+    add-no-texts lt = rw (← e₀, ← eF, ← ea, ← eb, le-ltb F (a + b) le, ← u₀, ← eT, ← ec, ← ed, lt-ltb T (c + d) lt)
+
+    pub add-both : c + d ≤ T → _≡_ {A = Reserved} (record { end = 0; known = record { frames = k .frames + f; texts = k .texts + n; low = k .low } }) (added p f n k)
+    unfolding added
+    add-both lt = rw (← e₀, ← eF, ← ea, ← eb, le-ltb F (a + b) le, ← u₀, ← eT, ← ec, ← ed, le-ltb T (c + d) lt)
+
+-- ---- seek
+
+module _ (h : List ℕ) (r : Reserved) where
+  pub seek-none : FullBelow h (r .known .low) → Sought h r r
+  seek-none a = record { end = refl; frames = refl; texts = refl; full = a }
+
+  pub seek-lowest : (x : ℕ) → x ≡ next-frame h → Sought h r (record { end = r .end; known = record { frames = r .known .frames; texts = r .known .texts; low = x } })
+  seek-lowest x e = record { end = refl; frames = refl; texts = refl; full = rw e (next-full h) }
+
+-- ---- reserve
+
+module _ (p h : List ℕ) (f n : ℕ) (k : Known) (known : Knows h 0 0 k) where
+  by-room : (P : Reserved → Type 0) → P (record { end = 36; known = k }) → P (record { end = 37; known = k }) →
+      (k .frames + f ≤ frame-limit p → k .texts + n ≤ text-limit p → P (record { end = 0; known = record { frames = k .frames + f; texts = k .texts + n; low = k .low } })) → P (added p f n k)
+  unfolding added
+  by-room P x y z = go (decLt (frame-limit p) (k .frames + f)) (decLt (text-limit p) (k .texts + n))
+    where
+      go : Dec (frame-limit p < k .frames + f) → Dec (text-limit p < k .texts + n) → P (added p f n k)
+      go (yes a) b = rw (lt-ltb (frame-limit p) (k .frames + f) a) x
+      go (no a) (yes b) = rw (le-ltb (frame-limit p) (k .frames + f) (omega arith), lt-ltb (text-limit p) (k .texts + n) b) y
+      go (no a) (no b) = rw (le-ltb (frame-limit p) (k .frames + f) (omega arith), le-ltb (text-limit p) (k .texts + n) (omega arith)) (z (omega arith) (omega arith))
+
+  -- what is known once f and n are counted in
+  reckoned : Reckons h f n (added p f n k)
+  reckoned =
+      by-room (Reckons h f n) (record { now = known; then = λ e. absurd (omega arith) }) (record { now = known; then = λ e. absurd (omega arith) })
+      (λ a b. record {
+        now = record { frames = omega (arith, known .frames); texts = omega (arith, known .texts); full = known .full };
+        then = λ e. record { frames = omega (arith, known .frames); texts = omega (arith, known .texts); full = known .full };
+      })
+
+  -- room by what is known is room
+  roomy : added p f n k .end ≡ 0 → room-end-held p h f n ≡ 0
   unfolding room-end-held
-  no-frames e = rw (← eF, ← eb, e)
+  roomy =
+      by-room (λ r. r .end ≡ 0 → room-end-held p h f n ≡ 0) (λ e. absurd (omega arith)) (λ e. absurd (omega arith))
+      (λ a b e. rw (
+        le-ltb (frame-limit p) (length (frames-in-use h) + f) (omega (arith, known .frames)),
+        le-ltb (text-limit p) (length (texts-in-use h) + n) (omega (arith, known .texts)),
+      ))
 
-  module _ (e : b ≡ false) (T : ℕ) (a : Bool) (eT : T ≡ text-limit p) (ea : a ≡ ltb T (length (texts-in-use h) + n)) where
-    pub no-texts : a ≡ true → 37 ≡ room-end-held p h f n
-    unfolding room-end-held
-    no-texts z = rw (← eF, ← eb, e, ← eT, ← ea, z)
+  module _ (a : Reserved) (ea : a ≡ added p f n k) where
+    pub reserve-full : FullBelow h (a .known .low)
+    reserve-full = rw ea (reckoned .now .full)
 
-    pub has-room : a ≡ false → 0 ≡ room-end-held p h f n
-    unfolding room-end-held
-    has-room z = rw (← eF, ← eb, e, ← eT, ← ea, z)
+    module _ (r : Reserved) (s : Sought h a r) where
+      pub reserve-reckons : Reckons h f n r
+      reserve-reckons =
+          let q : Reckons h f n a = rw ea reckoned in
+          record {
+            now = record { frames = rw (s .frames) (q .now .frames); texts = rw (s .texts) (q .now .texts); full = s .full };
+            then = λ e. let z = q .then (sym (s .end) ∙ e) in record { frames = rw (s .frames) (z .frames); texts = rw (s .texts) (z .texts); full = s .full };
+          }
 
-module _ (p h : List ℕ) (f n r : ℕ) (er : r ≡ room-end-held p h f n) where
-  pub reserve-room : r ≡ 0 → Reserves p h f n 0 h
-  unfolding reserved-words
-  reserve-room z = record { words = rw (← er, eq-eqb r 0 z); end = sym z ∙ er }
+      pub reserve-room : a .end ≡ 0 → Reserves p h f n (r .end) h
+      unfolding reserved-words
+      reserve-room z =
+          let q = roomy (rw ea at z) in
+          record { words = rw (eq-eqb (room-end-held p h f n) 0 q); end = s .end ∙ z ∙ sym q }
 
-  pub reserve-collects : (r ≡ 0 → ⊥) → (k : Totals) (h′ : List ℕ) (e : ℕ) → collect-heap h ≡ collection k h′ → e ≡ room-end-held p h′ f n → Reserves p h f n e h′
-  unfolding reserved-words
-  reserve-collects nz k h′ e ec ee = record { words = rw (← er, ne-eqb r 0 nz) (ap (λ (x : Collection). x .words) (sym ec)); end = ee }
+-- where all are counted
+module _ (p h : List ℕ) (f n low : ℕ) (full : FullBelow h low) (x y : ℕ) (ex : x ≡ length (frames-in-use h)) (ey : y ≡ length (texts-in-use h)) where
+  abbrev counted : Known
+  counted = record { frames = x; texts = y; low = low }
+
+  count-knows : Knows h 0 0 counted
+  count-knows = record { frames = omega arith; texts = omega arith; full = full }
+
+  count-end : added p f n counted .end ≡ room-end-held p h f n
+  unfolding added room-end-held
+  count-end = rw (← ex, ← ey) (go (ltb (frame-limit p) (x + f)) (ltb (text-limit p) (y + n)))
+    where
+      go : (s t : Bool) →
+          pick {A = Reserved} s (record { end = 36; known = counted })
+          (pick t (record { end = 37; known = counted }) (record { end = 0; known = record { frames = x + f; texts = y + n; low = low } })) .end
+          ≡ pick s 36 (pick t 37 0)
+      go true t = refl
+      go false true = refl
+      go false false = refl
+
+module _ (p h : List ℕ) (f n : ℕ) (k : Known) (known : Knows h 0 0 k) (x y : ℕ) (ex : x ≡ length (frames-in-use h)) (ey : y ≡ length (texts-in-use h))
+    (b : Reserved) (eb : b ≡ added p f n (record { frames = x; texts = y; low = k .low })) where
+  abbrev knows-now : Knows h 0 0 (counted p h f n (k .low) (known .full) x y ex ey)
+  knows-now = count-knows p h f n (k .low) (known .full) x y ex ey
+
+  pub count-full : FullBelow h (b .known .low)
+  count-full = reserve-full p h f n _ knows-now b eb
+
+  module _ (r : Reserved) (s : Sought h b r) where
+    pub count-room : b .end ≡ 0 → Reserves p h f n (r .end) h
+    count-room z = reserve-room p h f n _ knows-now b eb r s z
+
+    pub count-reckons : Reckons h f n r
+    count-reckons = reserve-reckons p h f n _ knows-now b eb r s
+
+  -- and after a collection
+  module _ (nz : b .end ≡ 0 → ⊥) (m : Totals) (h′ : List ℕ) (ec : collect-heap h ≡ collection m h′)
+      (d : Reserved) (ed : d ≡ added p f n (record { frames = m .frames; texts = m .texts; low = 0 })) where
+    words-are : collect-heap h .words ≡ h′
+    words-are = ap (λ (z : Collection). z .words) ec
+
+    totals-are : m ≡ in-use-totals h′
+    unfolding collect-heap
+    totals-are = sym (ap (λ (z : Collection). z .totals) ec) ∙ ap in-use-totals words-are
+
+    frames-are : m .frames ≡ length (frames-in-use h′)
+    unfolding in-use-totals
+    frames-are = ap (λ (z : Totals). z .frames) totals-are
+
+    texts-are : m .texts ≡ length (texts-in-use h′)
+    unfolding in-use-totals
+    texts-are = ap (λ (z : Totals). z .texts) totals-are
+
+    abbrev knows-then : Knows h′ 0 0 (counted p h′ f n 0 (none-below h′) (m .frames) (m .texts) frames-are texts-are)
+    knows-then = count-knows p h′ f n 0 (none-below h′) (m .frames) (m .texts) frames-are texts-are
+
+    pub collect-full : FullBelow h′ (d .known .low)
+    collect-full = reserve-full p h′ f n _ knows-then d ed
+
+    full-before : room-end-held p h f n ≡ 0 → ⊥
+    full-before z = nz (rw eb (count-end p h f n (k .low) (known .full) x y ex ey) ∙ z)
+
+    module _ (r : Reserved) (s : Sought h′ d r) where
+      pub collect-reserves : Reserves p h f n (r .end) h′
+      unfolding reserved-words
+      collect-reserves = record {
+        words = rw (ne-eqb (room-end-held p h f n) 0 full-before) (sym words-are);
+        end = s .end ∙ rw ed (count-end p h′ f n 0 (none-below h′) (m .frames) (m .texts) frames-are texts-are);
+      }
+
+      pub collect-reckons : Reckons h′ f n r
+      collect-reckons = reserve-reckons p h′ f n _ knows-then d ed r s

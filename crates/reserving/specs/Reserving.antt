@@ -9,6 +9,9 @@ use Rattle.words.specs.Words.{pick}
 use Rattle.tables.specs.Fields.{frame-limit, text-limit}
 use Rattle.heap.specs.Held.{frames-in-use, texts-in-use}
 use Rattle.collector.specs.Collect.{collect-heap}
+use Rattle.allocation.specs.declared.Known.{Known}
+use Rattle.allocation.specs.Known.{FullBelow, Knows}
+use Rattle.reserving.specs.declared.Reserved.{Reserved}
 
 -- the end that f more frames and n more made texts meet: 36, 37, or 0 where they fit
 unfoldable pub room-end-held : List ℕ → List ℕ → ℕ → ℕ → ℕ
@@ -23,3 +26,24 @@ reserved-words p h f n = pick (eqb (room-end-held p h f n) 0) h (collect-heap h 
 pub record Reserves (p h : List ℕ) (f n r : ℕ) (h′ : List ℕ) : Type 0 where
   pub words : h′ ≡ reserved-words p h f n
   pub end : r ≡ room-end-held p h′ f n
+
+-- ---- What is known
+
+-- the end, if so many frames and made texts are in use; where there is room, f and n are counted in
+unfoldable pub added : List ℕ → ℕ → ℕ → Known → Reserved
+added p f n k =
+    pick (ltb (frame-limit p) (k .frames + f)) (record { end = 36; known = k })
+    (pick (ltb (text-limit p) (k .texts + n)) (record { end = 37; known = k })
+    (record { end = 0; known = record { frames = k .frames + f; texts = k .texts + n; low = k .low } }))
+
+-- nothing but the number below which all frames are in use differs
+pub record Sought (h : List ℕ) (r s : Reserved) : Type 0 where
+  pub end : s .end ≡ r .end
+  pub frames : s .known .frames ≡ r .known .frames
+  pub texts : s .known .texts ≡ r .known .texts
+  pub full : FullBelow h (s .known .low)
+
+-- what is known after reserve; where there is room, with f and n counted in
+pub record Reckons (h : List ℕ) (f n : ℕ) (r : Reserved) : Type 0 where
+  pub now : Knows h 0 0 (r .known)
+  pub then : r .end ≡ 0 → Knows h f n (r .known)

@@ -1,99 +1,80 @@
-// Reserve (document 01: room): whether f more frames and t more made texts fit; where they do not, a collection, and then the same once more.
+// Reserve (document 01: room): whether f more frames and t more made texts fit; where they do not, a collection, and then the same once more. What is known of the numbers
+// in use may say at once that they fit; else they are counted.
+use allocation::Known;
 ghost use mathlib.Core.Path.{_≡_};
-ghost use Prim.Native.Nat.{_+_};
-ghost use lib.Dec.{ltb};
-ghost use lib.ListN.{length};
-ghost use Rattle.heap.specs.Held.{frames-in-use, texts-in-use};
 ghost use Rattle.heap.specs.Closed.{Closed};
-ghost use Rattle.reserving.specs.Reserving.{room-end-held, Reserves};
+ghost use Rattle.allocation.specs.Known.{FullBelow, Knows};
+ghost use Rattle.reserving.specs.Reserving.{added, Reserves, Sought, Reckons};
 
-// Whether fewer than k frames are free. The lowest are taken first, so free ones are met sooner from the top; with the k-th the answer is known.
-fn few_frames(h: &[u32], k: usize) -> bool
-    ensures { λ r. ⌜ r ≡ ltb 256 (length (frames-in-use (now (h .entry))) + k) ⌝ }
-{
-    if 256 < k {
-        return true;
-    }
-    let mut used = 0usize;
-    let mut f = 256u32;
-    while 0 < f {
-        if used + k + words::wide(f) <= 256 {
-            return false;
-        }
-        f -= 1;
-        if heap::frame_used(h, f) {
-            used += 1;
-        }
-    }
-    256 < used + k
+// The end, 0 where there is room, and what is known then. Where there is room the f frames and t texts are counted in.
+pub struct Reserved {
+    pub end: u32,
+    pub known: Known,
 }
 
-// The same of made texts.
-fn few_texts(h: &[u32], k: usize) -> bool
-    ensures { λ r. ⌜ r ≡ ltb 256 (length (texts-in-use (now (h .entry))) + k) ⌝ }
+// The end, if so many are in use: 36 where the frames plus f exceed F, else 37 where the made texts plus t exceed T, else 0, and then they are counted in.
+fn add(p: &[u32], f: u32, t: u32, k: Known) -> Reserved
+    ensures { λ r. ⌜ r ≡ added (now (p .entry)) f t k ⌝ }
 {
-    if 256 < k {
-        return true;
+    if words::wide(tables::frame_limit(p)) < words::wide(k.frames) + words::wide(f) {
+        return Reserved { end: 36, known: k };
     }
-    let mut used = 0usize;
-    let mut i = 256u32;
-    while 0 < i {
-        if used + k + words::wide(i) <= 256 {
-            return false;
-        }
-        i -= 1;
-        if heap::text_used(h, i) {
-            used += 1;
-        }
+    if words::wide(tables::text_limit(p)) < words::wide(k.texts) + words::wide(t) {
+        return Reserved { end: 37, known: k };
     }
-    256 < used + k
+    Reserved {
+        end: 0,
+        known: Known {
+            frames: k.frames + f,
+            texts: k.texts + t,
+            low: k.low,
+        },
+    }
 }
 
-// Whether the frames in use and so many more exceed the limit.
-fn frames_exceed(h: &[u32], limit: u32, more: u32) -> bool
-    ensures { λ r. ⌜ r ≡ ltb limit (length (frames-in-use (now (h .entry))) + more) ⌝ }
+// Where frames are to be made, the lowest that is free is looked for once.
+fn seek(h: &[u32], f: u32, r: Reserved) -> Reserved
+    requires { ⌜ FullBelow (now h) (r .known .low) ⌝ }
+    ensures { λ s. ⌜ Sought (now (h .entry)) r s ⌝ }
 {
-    let top = 256 + words::wide(more);
-    let most = words::wide(limit);
-    if top <= most {
-        return false;
+    if f == 0 {
+        return r;
     }
-    few_frames(h, top - most)
+    Reserved {
+        end: r.end,
+        known: Known {
+            frames: r.known.frames,
+            texts: r.known.texts,
+            low: allocation::lowest_frame(h, r.known.low),
+        },
+    }
 }
 
-// The same of made texts.
-fn texts_exceed(h: &[u32], limit: u32, more: u32) -> bool
-    ensures { λ r. ⌜ r ≡ ltb limit (length (texts-in-use (now (h .entry))) + more) ⌝ }
-{
-    let top = 256 + words::wide(more);
-    let most = words::wide(limit);
-    if top <= most {
-        return false;
-    }
-    few_texts(h, top - most)
-}
-
-// The end: 36 where the frames in use plus f exceed F, else 37 where the made texts in use plus t exceed T, else 0.
-pub fn room_end(p: &[u32], h: &[u32], f: u32, t: u32) -> u32
-    ensures { λ r. ⌜ r ≡ room-end-held (now (p .entry)) (now (h .entry)) f t ⌝ }
-{
-    if frames_exceed(h, tables::frame_limit(p), f) {
-        return 36;
-    }
-    if texts_exceed(h, tables::text_limit(p), t) {
-        return 37;
-    }
-    0
-}
-
-// Collects only where there is no room. The answer is the end that stands then.
-pub fn reserve(p: &[u32], h: &mut [u32], f: u32, t: u32) -> u32
+// Collects only where there is no room. The end is that which stands then.
+pub fn reserve(p: &[u32], h: &mut [u32], f: u32, t: u32, k: Known) -> Reserved
     requires { ⌜ Closed (now h) ⌝ }
-    ensures { λ r. ⌜ Reserves (now (p .entry)) (now (h .entry)) f t r (now (h .exit)) ⌝ }
+    requires { ⌜ Knows (now h) 0 0 k ⌝ }
+    ensures exact { λ r. ⌜ Reserves (now (p .entry)) (now (h .entry)) f t (r .end) (now (h .exit)) ⌝ }
+    ensures knows { λ r. ⌜ Reckons (now (h .exit)) f t r ⌝ }
 {
-    if room_end(p, h, f, t) == 0 {
-        return 0;
+    let a = add(p, f, t, k);
+    if a.end == 0 {
+        return seek(h, f, a);
     }
-    collector::collect_heap(h);
-    room_end(p, h, f, t)
+    let c = Known {
+        frames: heap::count_frames(h),
+        texts: heap::count_texts(h),
+        low: k.low,
+    };
+    let b = add(p, f, t, c);
+    if b.end == 0 {
+        return seek(h, f, b);
+    }
+    let n = collector::collect_heap(h);
+    let d = Known {
+        frames: n.frames,
+        texts: n.texts,
+        low: 0,
+    };
+    seek(h, f, add(p, f, t, d))
 }

@@ -18,6 +18,9 @@ use Rattle.framed.specs.declared.RunReport.{RunReport}
 use Rattle.framed.specs.declared.RunAnswer.{RunAnswer}
 use Rattle.heap.specs.Words.{position, end-mark}
 use Rattle.tables.specs.Fields.{instructions}
+use Rattle.allocation.specs.declared.Known.{Known}
+use Rattle.allocation.specs.Known.{Knows}
+use Rattle.allocation.proofs.Laws.{always-known}
 use Rattle.splice.specs.Splice.{splice}
 use Rattle.splice.proofs.Laws.{splice-length}
 use Rattle.wellformed.specs.WellFormed.{limits, WellFormed, well-formed}
@@ -268,6 +271,10 @@ module _ (p l : List ℕ) (fuel : ℕ) (h₀ t₀ out₀ : List ℕ) where
                     tried ∙ ap (λ (x : Outcome). by-outcome (λ h t out used. run-from p l (fuel - (steps + 1)) h t out used) used x h′ t′ out′) eo in
                     g .same ∙ ap (more-steps steps) tried-on ∙ steps-again later (steps + (1 + later .steps)) (steps + 1 + later .steps) (omega arith);
               }
+
+-- what is known at first
+pub starts-knowing : (h : List ℕ) (k : Known) → k ≡ record { frames = 256; texts = 256; low = 0 } → Knows h 0 0 k
+starts-knowing h k e = rw e (always-known h)
 
 -- ---- run
 

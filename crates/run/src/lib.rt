@@ -1,4 +1,5 @@
 // The public call run. Heap words, text bytes and the output buffer are lent to be written, program words and literal bytes only to be read.
+use allocation::Known;
 use framed::RunAnswer;
 use framed::RunReport;
 use framed::Stop;
@@ -61,6 +62,17 @@ fn stop_here(h: &[u32]) -> Stop
     Stop::Fuel
 }
 
+// What is known of the numbers in use in any words.
+fn nothing_known() -> Known
+    ensures { λ r. ⌜ r ≡ record { frames = 256; texts = 256; low = 0 } ⌝ }
+{
+    Known {
+        frames: 256,
+        texts: 256,
+        low: 0,
+    }
+}
+
 // Step after step, until the first stop.
 fn run_steps(
     p: &[u32],
@@ -75,6 +87,7 @@ fn run_steps(
 {
     let mut steps = 0u32;
     let mut used = 0usize;
+    let mut known = nothing_known();
     while steps < fuel {
         let e = heap::end_mark(h);
         if e != 0 {
@@ -92,7 +105,8 @@ fn run_steps(
                 bytes: used,
             };
         }
-        let o = step::attempt(p, l, h, t, z - 1, out, used);
+        let a = step::attempt(p, l, h, t, z - 1, out, used, known);
+        let o = a.outcome;
         let Outcome::Made(n) = o else {
             return RunReport {
                 stop: stop_after(o),
@@ -102,6 +116,7 @@ fn run_steps(
         };
         used += n;
         steps += 1;
+        known = a.known;
     }
     RunReport {
         stop: stop_here(h),

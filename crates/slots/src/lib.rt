@@ -117,6 +117,7 @@ fn clear_after(clear: usize, at: usize, k: u32, end: usize) -> usize
 fn bad_slots(s: &[u8], from: usize) -> Checked
     ensures { λ r. ⌜ Checks (now (s .entry)) from r ⌝ }
 {
+    let classes = source::classes();
     let mut begins = [0usize; 17];
     let mut ends = [0usize; 17];
     let mut n = 0;
@@ -125,7 +126,7 @@ fn bad_slots(s: &[u8], from: usize) -> Checked
     let mut clear = from;
     let mut at = from;
     while at < s.len() {
-        match token::token_at(s, at) {
+        match token::token_in(&classes, s, at) {
             TokenRead::End => {
                 return Checked { bad: false, clear };
             }
@@ -171,9 +172,10 @@ fn opens_bad(s: &[u8], k: u32, end: usize) -> Checked
 pub fn bad_frame(s: &[u8]) -> bool
     ensures { λ r. ⌜ Decides bad-tree (now (s .entry)) r ⌝ }
 {
+    let classes = source::classes();
     let mut at = 0;
     while at < s.len() {
-        match token::token_at(s, at) {
+        match token::token_in(&classes, s, at) {
             TokenRead::End => {
                 return false;
             }

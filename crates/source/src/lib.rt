@@ -280,14 +280,6 @@ pub fn class_in(t: &[u8; 256], b: u8) -> u8
     t[i]
 }
 
-// The class of one byte.
-pub fn class_of(b: u8) -> u8
-    ensures { λ r. ⌜ r ≡ class b ⌝ }
-{
-    let t = classes();
-    class_in(&t, b)
-}
-
 // The byte at a position, and 0 past the end.
 pub fn byte_at(s: &[u8], at: usize) -> u8
     ensures { λ r. ⌜ r ≡ byte (now (s .entry)) at ⌝ }

@@ -1,6 +1,7 @@
 // Spaces and comments of a source.
 ghost use mathlib.Core.Path.{_≡_};
 ghost use Rattle.framed.specs.Bytes.{class};
+ghost use Rattle.source.specs.Classified.{Classified};
 ghost use Rattle.spaces.specs.Spaces.{CommentEnds, CanSkip, SkipsOne, Skips};
 
 // The position after the line, where a comment ends.
@@ -39,13 +40,13 @@ fn skip_one(t: &[u8; 256], s: &[u8], at: usize) -> usize
 }
 
 // The position after spaces and comments.
-pub fn skip(s: &[u8], at: usize) -> usize
+pub fn skip(t: &[u8; 256], s: &[u8], at: usize) -> usize
+    requires { ⌜ Classified (now t) ⌝ }
     ensures { λ r. ⌜ Skips class (now (s .entry)) at r ⌝ }
 {
-    let classes = source::classes();
     let mut i = at;
     while i < s.len() {
-        let j = skip_one(&classes, s, i);
+        let j = skip_one(t, s, i);
         if j == i {
             return i;
         }

@@ -36,11 +36,12 @@ fn is_slot(s: &[u8], slot: bool, a: usize, p: usize, name: &[u8]) -> bool
 fn find_slot(s: &[u8], from: usize, name: &[u8]) -> Found
     ensures { λ r. ⌜ Leads (find (now (name .entry)) 0 0) (now (s .entry)) from r ⌝ }
 {
+    let classes = source::classes();
     let mut depth = 0;
     let mut last = 0;
     let mut at = from;
     while at < s.len() {
-        match token::token_at(s, at) {
+        match token::token_in(&classes, s, at) {
             TokenRead::End => {
                 return Found::Refused;
             }

@@ -8,9 +8,9 @@ fn make_written(p: &[u32], l: &[u8], h: &mut [u32], t: &mut [u8]) -> u32
     requires { ⌜ CanStart (now p) (now l) (now h) (now t) ⌝ }
     ensures { λ r. ⌜ Makes (now (p .entry)) (now (l .entry)) r (now (h .exit)) (now (t .exit)) ⌝ }
 {
-    let f = evaluation::claim(h);
+    let f = evaluation::claim(h, 0);
     let z = tables::program_slots(p);
-    evaluation::fill(p, l, h, t, f, z);
+    evaluation::fill(p, l, h, t, f, z, 0);
     f
 }
 
@@ -18,7 +18,7 @@ fn make_written(p: &[u32], l: &[u8], h: &mut [u32], t: &mut [u8]) -> u32
 fn new_self(h: &mut [u32])
     ensures { λ _. ⌜ now (h .exit) ≡ new-self (now (h .entry)) ⌝ }
 {
-    let g = evaluation::claim(h);
+    let g = evaluation::claim(h, 0);
     heap::set_self(h, Value::Frame(g));
 }
 

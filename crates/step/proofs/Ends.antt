@@ -26,7 +26,8 @@ use Rattle.word_store.specs.State.{state-held}
 use Rattle.evaluation.proofs.Stores.{heap-is}
 use Rattle.checking.specs.Checking.{ChecksInstruction}
 use Rattle.checking.proofs.Memories.{instruction-checks}
-use Rattle.reserving.specs.Reserving.{room-end-held, reserved-words, Reserves}
+use Rattle.reserving.specs.declared.Reserved.{Reserved}
+use Rattle.reserving.specs.Reserving.{room-end-held, reserved-words, Reserves, Reckons}
 use Rattle.reserving.proofs.Meaning.{reserve-ready, reserve-end}
 use Rattle.commit.specs.Commit.{state-of}
 use Rattle.step.specs.Step.{frames-for, texts-for, CanReserve, ready-words, Formed, CanStep, step-end-held, StepEnds}
@@ -122,3 +123,7 @@ module _ (p l h t : List ℕ) (i : ℕ) (can : CanStep p l h t i) where
       words = is-ready;
       end = rw (self-same, program-same, heap-same) at ee ∙ sym (roomy (trees.program-held p l) (frame-limit p) (text-limit p) now (instruction-held p i) (reserved-end ∙ z));
     }
+
+-- the end of the check does not change what is known
+pub reckons-checked : (h : List ℕ) (f n : ℕ) (r : Reserved) → Reckons h f n r → r .end ≡ 0 → (e : ℕ) → Reckons h f n (record { end = e; known = r .known })
+reckons-checked h f n r q z e = record { now = q .now; then = λ x. q .then z }

@@ -26,7 +26,7 @@ use Rattle.bounded.specs.Bounded.{value-given, heap-in, line}
 use Rattle.word_store.specs.Store.{word-store}
 use Rattle.word_store.specs.State.{store-held, state-held}
 use Rattle.evaluation.proofs.Stores.{heap-is, frames-are}
-use Rattle.evaluation.proofs.Simple.{strings-are}
+use Rattle.operands.proofs.Literals.{same-literals}
 use Rattle.step.specs.declared.Shown.{Shown}
 use Rattle.step.specs.Step.{line-held, CanShow, show-line, Showing, showing, Shows}
 
@@ -53,7 +53,7 @@ module _ (p l h t : List ℕ) (i : ℕ) (out : List ℕ) (used : ℕ) (can : Can
 
     is-line : line-held p l h t i ≡ line-bytes (literals-held p l) (texts-held h t) v
     unfolding line-held line state-held line-bytes operand-value
-    is-line = rw (show-held p l (can .program) i (can .there) a (sym ee ∙ is), strings-are p l, texts-are, frames-are h t, ev)
+    is-line = rw (show-held p l (can .program) i (can .there) a (sym ee ∙ is), same-literals p l, texts-are, frames-are h t, ev)
 
     size : length (line-held p l h t i) ≡ n
     size = ap length is-line ∙ line-size-is p l h t v ∙ sym en

@@ -9,8 +9,12 @@ use borrow.Author.Tests.{le-ltb}
 use Rattle.tables.specs.Fields.{frame-limit, text-limit}
 use Rattle.heap.specs.Held.{frames-in-use, texts-in-use}
 use Rattle.needs.specs.Needs.{cap}
-use Rattle.needs.proofs.Cap.{cap-small, cap-compares}
-use Rattle.reserving.specs.Reserving.{room-end-held, reserved-words, Reserves}
+use Rattle.needs.proofs.Cap.{cap-small, cap-large, cap-compares}
+use Rattle.allocation.specs.declared.Known.{Known}
+use Rattle.allocation.specs.Known.{Knows}
+use Rattle.reserving.specs.declared.Reserved.{Reserved}
+use Rattle.reserving.specs.Reserving.{room-end-held, reserved-words, Reserves, Reckons}
+use Rattle.commit.proofs.Ready.{reserved-room}
 use Rattle.step.specs.Step.{frames-for, texts-for, CanReserve}
 
 cap-zero : (n : ℕ) → cap n ≡ 0 → n ≡ 0
@@ -20,6 +24,14 @@ cap-zero n e = go (decLt n 257)
     go : Dec (n < 257) → n ≡ 0
     go (yes lt) = sym (cap-small n lt) ∙ e
     go (no ge) = absurd (let z : _≡_ {A = ℕ} 257 0 = rw (le-ltb n 257 (omega arith)) at e in omega arith)
+
+-- where there is room nothing was cut off
+cap-exact : (n m : ℕ) → m ≡ cap n → m ≤ 256 → m ≡ n
+cap-exact n m e le = go (decLt n 257)
+  where
+    go : Dec (n < 257) → m ≡ n
+    go (yes lt) = e ∙ cap-small n lt
+    go (no ge) = absurd (omega (arith, e, cap-large n (omega arith)))
 
 module _ (p : List ℕ) (f n : ℕ) (F-most : frame-limit p ≤ 256) (T-most : text-limit p ≤ 256) where
   capped-end : (h : List ℕ) → room-end-held p h (cap f) (cap n) ≡ room-end-held p h f n
@@ -35,7 +47,7 @@ module _ (p h : List ℕ) (few : length (frames-in-use h) ≤ frame-limit p) (fe
   unfolding room-end-held
   no-need = rw (le-ltb (frame-limit p) (length (frames-in-use h) + 0) (omega arith), le-ltb (text-limit p) (length (texts-in-use h) + 0) (omega arith))
 
-  nothing-reserved : Reserves p h 0 0 0 h
+  pub nothing-reserved : Reserves p h 0 0 0 h
   unfolding reserved-words
   nothing-reserved = record { words = rw no-need; end = sym no-need }
 
@@ -55,3 +67,18 @@ module _ (p h : List ℕ) (i : ℕ) (can : CanReserve p h i) (f n : ℕ) (ef : f
       let a : f ≡ 0 = omega arith in
       let b : n ≡ 0 = omega arith in
       rw (cap-zero (frames-for p i) (sym ef ∙ a), cap-zero (texts-for p i) (sym en ∙ b)) (nothing-reserved p h (can .frames-few) (can .texts-few))
+
+  pub reckons-counted : (r : Reserved) (h′ : List ℕ) → Reserves p h f n (r .end) h′ → Reckons h′ f n r → Reckons h′ (frames-for p i) (texts-for p i) r
+  reckons-counted r h′ k q = record { now = q .now; then = λ z. rest z (q .then z) }
+    where
+      rest : r .end ≡ 0 → Knows h′ f n (r .known) → Knows h′ (frames-for p i) (texts-for p i) (r .known)
+      rest z a =
+          let room = reserved-room p (can .at .literal-bytes) h f n h′ (can .at .program) (rw z at k) in
+          rw (← cap-exact (frames-for p i) f ef (omega (arith, room .frames)), ← cap-exact (texts-for p i) n en (omega (arith, room .texts))) a
+
+  pub reckons-nothing : (m : ℕ) → m ≡ cap (f + n) → m ≡ 0 → (k : Known) → Knows h 0 0 k → Reckons h (frames-for p i) (texts-for p i) (record { end = 0; known = k })
+  reckons-nothing m em z k a =
+      let s = cap-zero (f + n) (sym em ∙ z) in
+      let x : f ≡ 0 = omega arith in
+      let y : n ≡ 0 = omega arith in
+      rw (cap-zero (frames-for p i) (sym ef ∙ x), cap-zero (texts-for p i) (sym en ∙ y)) (record { now = a; then = λ e. a })

@@ -1,8 +1,12 @@
 // One step of the machine over the words: reserve, check, the line of a show, commit. The parts are the crates below; here they follow one another.
+use allocation::Known;
+use direct::Done;
+use reserving::Reserved;
 use tables::InstructionEntry;
 ghost use Rattle.step.specs.Step.{CanReserve, CanStep, StepEnds, CanShow, Shows, CanAttempt, Attempts};
 ghost use Rattle.step.specs.Step.{frames-for, texts-for};
-ghost use Rattle.reserving.specs.Reserving.{Reserves};
+ghost use Rattle.allocation.specs.Known.{Knows};
+ghost use Rattle.reserving.specs.Reserving.{Reserves, Reckons};
 
 // What became of the line of an instruction: its size, where there was space for it.
 pub enum Shown {
@@ -17,29 +21,50 @@ pub enum Outcome {
     Made(usize),
 }
 
+// What became of a step, and what is known of the numbers in use after it.
+pub struct Tried {
+    pub outcome: Outcome,
+    pub known: Known,
+}
+
 // Room for what instruction i makes: 36, 37 or 0. One that makes nothing counts nothing.
-pub fn reserve_for(p: &[u32], h: &mut [u32], i: u32) -> u32
+pub fn reserve_for(p: &[u32], h: &mut [u32], i: u32, k: Known) -> Reserved
     requires { ⌜ CanReserve (now p) (now h) i ⌝ }
-    ensures { λ r. ⌜ Reserves (now (p .entry)) (now (h .entry)) (frames-for (now (p .entry)) i) (texts-for (now (p .entry)) i) r (now (h .exit)) ⌝ }
+    requires { ⌜ Knows (now h) 0 0 k ⌝ }
+    ensures exact { λ r. ⌜ Reserves (now (p .entry)) (now (h .entry)) (frames-for (now (p .entry)) i) (texts-for (now (p .entry)) i) (r .end) (now (h .exit)) ⌝ }
+    ensures knows { λ r. ⌜ Reckons (now (h .exit)) (frames-for (now (p .entry)) i) (texts-for (now (p .entry)) i) r ⌝ }
 {
     let f = needs::frames_needed(p, i);
     let t = needs::texts_needed(p, i);
     if needs::capped(f, t) == 0 {
-        return 0;
+        return Reserved { end: 0, known: k };
     }
-    reserving::reserve(p, h, f, t)
+    reserving::reserve(p, h, f, t, k)
 }
 
 // The end that the step on instruction i gives, 0 where it goes on. Nothing but a collection is written.
-pub fn step_end<'a>(p: &[u32], l: &'a [u8], h: &mut [u32], t: &'a [u8], i: u32) -> u32
+pub fn step_end<'a>(
+    p: &[u32],
+    l: &'a [u8],
+    h: &mut [u32],
+    t: &'a [u8],
+    i: u32,
+    k: Known,
+) -> Reserved
     requires { ⌜ CanStep (now p) (now l) (now h) (now t) i ⌝ }
-    ensures { λ r. ⌜ StepEnds (now (p .entry)) (now (l .entry)) (now (h .entry)) (now (t .entry)) i r (now (h .exit)) ⌝ }
+    requires { ⌜ Knows (now h) 0 0 k ⌝ }
+    ensures exact { λ r. ⌜ StepEnds (now (p .entry)) (now (l .entry)) (now (h .entry)) (now (t .entry)) i (r .end) (now (h .exit)) ⌝ }
+    ensures knows { λ r. ⌜ Reckons (now (h .exit)) (frames-for (now (p .entry)) i) (texts-for (now (p .entry)) i) r ⌝ }
 {
-    let full = reserve_for(p, h, i);
-    if full != 0 {
+    let full = reserve_for(p, h, i, k);
+    if full.end != 0 {
         return full;
     }
-    checking::check(p, l, h, t, i)
+    let known = full.known;
+    Reserved {
+        end: checking::check(p, l, h, t, i),
+        known: known,
+    }
 }
 
 // The line of instruction i at a position of the buffer, where it fits behind it. Only a show has one.
@@ -67,7 +92,46 @@ pub fn show<'a>(
     Shown::Written(n)
 }
 
-// The step on instruction i: the end that it gives is marked; without space for its line nothing is done; else the line is written and the instruction committed.
+// The step on instruction i, part by part: the end that it gives is marked; without space for its line nothing is done; else the line is written and the instruction committed.
+fn in_parts(
+    p: &[u32],
+    l: &[u8],
+    h: &mut [u32],
+    t: &mut [u8],
+    i: u32,
+    out: &mut [u8],
+    used: usize,
+    k: Known,
+) -> Tried
+    requires { ⌜ CanAttempt (now p) (now l) (now h) (now t) i (now out) used ⌝ }
+    requires { ⌜ Knows (now h) 0 0 k ⌝ }
+    ensures exact { λ r. ⌜ Attempts (now (p .entry)) (now (l .entry)) (now (h .entry)) (now (t .entry)) i (now (out .entry)) used (r .outcome) (now (h .exit)) (now (t .exit)) (now (out .exit)) ⌝ }
+    ensures knows { λ r. ⌜ Knows (now (h .exit)) 0 0 (r .known) ⌝ }
+{
+    let s = step_end(p, l, h, t, i, k);
+    let e = s.end;
+    let known = s.known;
+    if e != 0 {
+        heap::set_end_mark(h, e);
+        return Tried {
+            outcome: Outcome::Ended(e),
+            known: known,
+        };
+    }
+    let Shown::Written(n) = show(p, l, h, t, i, out, used) else {
+        return Tried {
+            outcome: Outcome::NoSpace,
+            known: known,
+        };
+    };
+    commit::commit(p, l, h, t, i, known.low);
+    Tried {
+        outcome: Outcome::Made(n),
+        known: known,
+    }
+}
+
+// The step on instruction i: the end that it gives is marked; without space for its line nothing is done; else the line is written and the instruction committed. One that makes nothing and shows nothing is done in one go.
 pub fn attempt(
     p: &[u32],
     l: &[u8],
@@ -76,18 +140,25 @@ pub fn attempt(
     i: u32,
     out: &mut [u8],
     used: usize,
-) -> Outcome
+    k: Known,
+) -> Tried
     requires { ⌜ CanAttempt (now p) (now l) (now h) (now t) i (now out) used ⌝ }
-    ensures { λ r. ⌜ Attempts (now (p .entry)) (now (l .entry)) (now (h .entry)) (now (t .entry)) i (now (out .entry)) used r (now (h .exit)) (now (t .exit)) (now (out .exit)) ⌝ }
+    requires { ⌜ Knows (now h) 0 0 k ⌝ }
+    ensures exact { λ r. ⌜ Attempts (now (p .entry)) (now (l .entry)) (now (h .entry)) (now (t .entry)) i (now (out .entry)) used (r .outcome) (now (h .exit)) (now (t .exit)) (now (out .exit)) ⌝ }
+    ensures knows { λ r. ⌜ Knows (now (h .exit)) 0 0 (r .known) ⌝ }
 {
-    let e = step_end(p, l, h, t, i);
-    if e != 0 {
-        heap::set_end_mark(h, e);
-        return Outcome::Ended(e);
+    match direct::direct(p, l, h, t, i) {
+        Done::Made => Tried {
+            outcome: Outcome::Made(0),
+            known: k,
+        },
+        Done::Ended(end) => {
+            heap::set_end_mark(h, end);
+            Tried {
+                outcome: Outcome::Ended(end),
+                known: k,
+            }
+        }
+        Done::Other => in_parts(p, l, h, t, i, out, used, k),
     }
-    let Shown::Written(n) = show(p, l, h, t, i, out, used) else {
-        return Outcome::NoSpace;
-    };
-    commit::commit(p, l, h, t, i);
-    Outcome::Made(n)
 }

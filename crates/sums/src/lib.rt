@@ -269,6 +269,7 @@ pub fn sum_all(s: &[u8]) -> Totals
     requires { ⌜ Short (now s) ⌝ }
     ensures { λ r. ⌜ Totalled (now (s .entry)) r ⌝ }
 {
+    let classes = source::classes();
     let mut at = 0;
     let mut t = nothing();
     let mut curly = 0;
@@ -276,7 +277,7 @@ pub fn sum_all(s: &[u8]) -> Totals
     let mut further = 0;
     let mut last = 0;
     while at < s.len() {
-        match token::token_at(s, at) {
+        match token::token_in(&classes, s, at) {
             TokenRead::End => {
                 return t;
             }

@@ -315,6 +315,18 @@ module _ (s : List ℕ) (at b : ℕ) (is : b ≡ byte s at) (a : At s at) (n : b
 
 -- ---- One token
 
+-- digits follow a `-`; past the end the byte is 0, which is no digit
+pub minus-begins : (c : Classes) (s : List ℕ) (at d j : ℕ) → d ≡ byte s (at + 1) → j ≡ c d → j ≡ 3 → c 0 ≡ 0 → RunBegins c s 1 (at + 1)
+unfolding run-test
+minus-begins c s at d j f g h z = record { inside = before-end s (at + 1) (rw (← f) (positive d (sym g ∙ h))); begins = rw (← f, ← g, h) }
+  where
+    positive : (d : ℕ) → c d ≡ 3 → 0 < d
+    positive zero h = absurd (none (sym z ∙ h))
+      where
+        none : _≡_ {A = ℕ} 0 3 → ⊥
+        none h = omega arith
+    positive (suc d) h = omega arith
+
 module _ (c : Classes) (s : List ℕ) (at b k : ℕ) (is : b ≡ byte s at) (kind : k ≡ c b) (a : At s at) where
   pub name-begins : k ≡ 2 → RunBegins c s 2 at
   unfolding run-test
@@ -347,17 +359,6 @@ module _ (c : Classes) (s : List ℕ) (at b k : ℕ) (is : b ≡ byte s at) (kin
 
       -- the byte after a `-`; past the end it is 0, which is no digit
       module _ (e : b ≡ 45) (d j : ℕ) (f : d ≡ byte s (at + 1)) (g : j ≡ c d) (z : c 0 ≡ 0) where
-        pub minus-begins : j ≡ 3 → RunBegins c s 1 (at + 1)
-        unfolding run-test
-        minus-begins h = record { inside = before-end s (at + 1) (rw (← f) (positive d (sym g ∙ h))); begins = rw (← f, ← g, h) }
-          where
-            positive : (d : ℕ) → c d ≡ 3 → 0 < d
-            positive zero h = absurd (none (sym z ∙ h))
-              where
-                none : _≡_ {A = ℕ} 0 3 → ⊥
-                none h = omega arith
-            positive (suc d) h = omega arith
-
         no-digit : digit c 0 ≡ false
         no-digit = rw z
 

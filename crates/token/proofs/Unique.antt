@@ -21,7 +21,7 @@ use Rattle.token.proofs.KindNumbers.{kind-is}
 end≢no-token : end ≡ no-token → ⊥
 end≢no-token e = let z : _≡_ {A = ℕ} 0 1 = cc in omega arith
 
-token-inj : {t u : Token} {r s : List ℕ} → token t r ≡ token u s → t ≡ u
+pub token-inj : {t u : Token} {r s : List ℕ} → token t r ≡ token u s → t ≡ u
 token-inj e = cc
 
 integer-inj : {x y : ℤ} → Token.integer x ≡ Token.integer y → x ≡ y

@@ -7,12 +7,23 @@ use lib.Dec.{eqb}
 use lib.IntN.{pos, negℤ}
 use lib.ListN.{length}
 use Rattle.framed.specs.Common.{if_then_else_, while, after}
-use Rattle.framed.specs.Bytes.{Classes}
+use Rattle.framed.specs.Bytes.{Classes, class}
 use Rattle.framed.specs.Tokens.{Token, Read, no-token, token, number, read-name, read-integer, read-string, read-mark}
-use Rattle.source.specs.Positions.{byte, rest}
-use Rattle.lexeme.specs.Lexemes.{run-test}
+use Rattle.source.specs.Positions.{byte, rest, At}
+use Rattle.source.specs.Classified.{Classified}
+use Rattle.lexeme.specs.Lexemes.{run-test, RunBegins}
 use Rattle.token.specs.Reading.{meant, fixed-of}
 use Rattle.token.specs.declared.TokenRead.{TokenRead}
+
+-- the table of classes, and a position inside the source
+pub record CanRead (t s : List ℕ) (i : ℕ) : Type 0 where
+  pub table : Classified t
+  pub at : At s i
+
+-- the table of classes, and a place where a run begins
+pub record CanRun (t s : List ℕ) (m i : ℕ) : Type 0 where
+  pub table : Classified t
+  pub run : RunBegins class s m i
 
 -- a token of kind k from `at` up to p, inside the source; only an integer has a word
 pub record Taken (at len k p w : ℕ) : Type 0 where

@@ -4,9 +4,9 @@ ghost use Prim.Native.Nat.{_+_, _-_};
 ghost use Rattle.framed.specs.Bytes.{class};
 ghost use Rattle.framed.specs.Tokens.{read};
 ghost use Rattle.source.specs.Positions.{rest, part, At};
-ghost use Rattle.lexeme.specs.Lexemes.{RunBegins};
+ghost use Rattle.source.specs.Classified.{Classified};
 ghost use Rattle.token.specs.Reading.{TokenAt};
-ghost use Rattle.token.specs.Beginning.{Begins, name-read, natural-read, negative-read, string-read, mark-read, mark-kind, TwoOk, two-read};
+ghost use Rattle.token.specs.Beginning.{CanRead, CanRun, Begins, name-read, natural-read, negative-read, string-read, mark-read, mark-kind, TwoOk, two-read};
 
 // What stands at a position: nothing more, bytes that form no token, or a token with its kind, where it begins and ends, and the word
 // of an integer, else 0.
@@ -17,11 +17,11 @@ pub enum TokenRead {
 }
 
 // A name or a reserved word that begins here.
-fn name_at(s: &[u8], at: usize) -> TokenRead
-    requires { ⌜ RunBegins class (now s) 2 at ⌝ }
+fn name_at(t: &[u8; 256], s: &[u8], at: usize) -> TokenRead
+    requires { ⌜ CanRun (now t) (now s) 2 at ⌝ }
     ensures { λ r. ⌜ Begins (name-read class (now (s .entry)) at) (now (s .entry)) at r ⌝ }
 {
-    let p = lexeme::run_end(s, at, 2);
+    let p = lexeme::run_end(t, s, at, 2);
     if p - at <= 16 {
         let w = &s[at..p];
         let k = lexeme::kind_of_word(w);
@@ -31,11 +31,11 @@ fn name_at(s: &[u8], at: usize) -> TokenRead
 }
 
 // An integer without a sign.
-fn natural_at(s: &[u8], at: usize) -> TokenRead
-    requires { ⌜ RunBegins class (now s) 1 at ⌝ }
+fn natural_at(t: &[u8; 256], s: &[u8], at: usize) -> TokenRead
+    requires { ⌜ CanRun (now t) (now s) 1 at ⌝ }
     ensures { λ r. ⌜ Begins (natural-read class (now (s .entry)) at) (now (s .entry)) at r ⌝ }
 {
-    let p = lexeme::run_end(s, at, 1);
+    let p = lexeme::run_end(t, s, at, 1);
     let digits = &s[at..p];
     let n = lexeme::number_of(digits);
     if n <= 2147483647 {
@@ -45,12 +45,12 @@ fn natural_at(s: &[u8], at: usize) -> TokenRead
 }
 
 // An integer whose sign is here and whose digits follow.
-fn negative_at(s: &[u8], at: usize) -> TokenRead
-    requires { ⌜ RunBegins class (now s) 1 (at + 1) ⌝ }
+fn negative_at(t: &[u8; 256], s: &[u8], at: usize) -> TokenRead
+    requires { ⌜ CanRun (now t) (now s) 1 (at + 1) ⌝ }
     ensures { λ r. ⌜ Begins (negative-read class (now (s .entry)) at) (now (s .entry)) at r ⌝ }
 {
     let i = at + 1;
-    let p = lexeme::run_end(s, i, 1);
+    let p = lexeme::run_end(t, s, i, 1);
     let digits = &s[i..p];
     let n = lexeme::number_of(digits);
     if n == 0 {
@@ -64,12 +64,12 @@ fn negative_at(s: &[u8], at: usize) -> TokenRead
 }
 
 // A string whose first quote is here.
-fn string_at(s: &[u8], at: usize) -> TokenRead
-    requires { ⌜ At (now s) at ⌝ }
+fn string_at(t: &[u8; 256], s: &[u8], at: usize) -> TokenRead
+    requires { ⌜ CanRead (now t) (now s) at ⌝ }
     ensures { λ r. ⌜ Begins (string-read class (now (s .entry)) at) (now (s .entry)) at r ⌝ }
 {
     let i = at + 1;
-    let p = lexeme::run_end(s, i, 0);
+    let p = lexeme::run_end(t, s, i, 0);
     let q = source::byte_at(s, p);
     if q != 34 {
         return TokenRead::NoToken;
@@ -146,41 +146,50 @@ fn mark_at(s: &[u8], at: usize) -> TokenRead
 }
 
 // The token that begins here.
-fn read_at(s: &[u8], at: usize) -> TokenRead
-    requires { ⌜ At (now s) at ⌝ }
+fn read_at(t: &[u8; 256], s: &[u8], at: usize) -> TokenRead
+    requires { ⌜ CanRead (now t) (now s) at ⌝ }
     ensures { λ r. ⌜ Begins (read class (rest (now (s .entry)) at)) (now (s .entry)) at r ⌝ }
 {
     let b = source::byte_at(s, at);
-    let k = source::class_of(b);
+    let k = source::class_in(t, b);
     if k == 2 {
-        return name_at(s, at);
+        return name_at(t, s, at);
     }
     if k == 3 {
-        return natural_at(s, at);
+        return natural_at(t, s, at);
     }
     if b == 34 {
-        return string_at(s, at);
+        return string_at(t, s, at);
     }
     if b != 45 {
         return mark_at(s, at);
     }
     let d = source::byte_at(s, at + 1);
-    let j = source::class_of(d);
+    let j = source::class_in(t, d);
     if j == 3 {
-        return negative_at(s, at);
+        return negative_at(t, s, at);
     }
     mark_at(s, at)
+}
+
+// The token at a position, after spaces and comments. It is for code that reads many tokens: the table is made once.
+pub fn token_in(t: &[u8; 256], s: &[u8], at: usize) -> TokenRead
+    requires { ⌜ Classified (now t) ⌝ }
+    ensures { λ r. ⌜ TokenAt class (now (s .entry)) at r ⌝ }
+{
+    let i = spaces::skip(t, s, at);
+    if s.len() <= i {
+        return TokenRead::End;
+    }
+    read_at(t, s, i)
 }
 
 // The token at a position, after spaces and comments.
 pub fn token_at(s: &[u8], at: usize) -> TokenRead
     ensures { λ r. ⌜ TokenAt class (now (s .entry)) at r ⌝ }
 {
-    let i = spaces::skip(s, at);
-    if s.len() <= i {
-        return TokenRead::End;
-    }
-    read_at(s, i)
+    let t = source::classes();
+    token_in(&t, s, at)
 }
 
 // The bytes of a token that begins and ends there, as a part of the source.

@@ -3,18 +3,18 @@ use native.Mathlib.Omega.{arith}
 use borrow.Author.Needs.{needs}
 use Rattle.heap.specs.Words.{frame-used}
 use Rattle.allocation.specs.Allocation.{next-frame}
-use Rattle.allocation.proofs.Laws.{Seek, seek-start, seek-none, seek-here, seek-again}
+use Rattle.allocation.proofs.Laws.{Seek, seek-full, seek-none, seek-here, seek-again}
 use Rattle.allocation.proofs.lowest_frame.Statement.{statement}
 use Rattle.allocation.proofs.lowest_frame.Tie as tie
 
 abbrev Inv-loop : tie.InvT-loop
-Inv-loop h f₀ f = Seek (frame-used h) f
+Inv-loop h low f₀ f = Seek (frame-used h) f
 
 abbrev μ-loop : tie.MeasureT-loop
-μ-loop h f₀ f = 256 - f
+μ-loop h low f₀ f = 256 - f
 
 loop-holds : tie.Need-loop-holds Inv-loop μ-loop
-loop-holds c = search seek-start
+loop-holds c = search seek-full
 
 returns : tie.Need-returns Inv-loop μ-loop
 unfolding next-frame

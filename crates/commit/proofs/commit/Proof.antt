@@ -22,7 +22,7 @@ enum-known-j c = search needs
 
 -- src/lib.rt:94:13
 assign-self-requires : tie.Need-assign-self-requires
-assign-self-requires c κs = search commit-can-self
+assign-self-requires c κs = (search commit-can-self, search needs)
 
 -- src/lib.rt:95:13
 go-on-requires : tie.Need-go-on-requires
@@ -34,7 +34,7 @@ enum-known-j-2 c = search needs
 
 -- src/lib.rt:98:13
 assign-program-requires : tie.Need-assign-program-requires
-assign-program-requires c κs = search commit-can-program
+assign-program-requires c κs = (search commit-can-program, search needs)
 
 -- src/lib.rt:99:13
 go-on-requires-2 : tie.Need-go-on-requires-2

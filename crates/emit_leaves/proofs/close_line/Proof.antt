@@ -6,30 +6,30 @@ use Rattle.emit_leaves.proofs.close_line.Reads as reads
 use Rattle.emit_leaves.proofs.close_line.Lts as lts
 use Rattle.emit_leaves.proofs.line_link.Reads as line-link-reads
 use Rattle.emit_leaves.proofs.skip.Reads as skip-reads
-use Rattle.grammar.proofs.kind_at.Reads as kind-at-reads
+use Rattle.grammar.proofs.look.Reads as look-reads
 use Rattle.table_updates.proofs.set_instruction_link.Reads as set-instruction-link-reads
 
--- src/lib.rt:200:9
+-- src/lib.rt:211:9
 skip-requires : tie.Need-skip-requires
 skip-requires c κs = search needs
 
--- src/lib.rt:201:9
-kind-at-requires : tie.Need-kind-at-requires
-kind-at-requires c κs = search needs
+-- src/lib.rt:212:9
+look-requires : tie.Need-look-requires
+look-requires c κs = search needs
 
--- src/lib.rt:202:9
+-- src/lib.rt:213:9
 line-link-requires : tie.Need-line-link-requires
 line-link-requires c κs = search needs
 
--- src/lib.rt:203:5
+-- src/lib.rt:214:5
 set-instruction-link-requires : tie.Need-set-instruction-link-requires
 set-instruction-link-requires c κs = search needs
 
--- src/lib.rt:197:1
+-- src/lib.rt:208:1
 same-length : tie.Need-same-length
 same-length c = search needs
 
--- src/lib.rt:197:1
+-- src/lib.rt:208:1
 returns : tie.Need-returns
 returns c = search line-end
 
@@ -38,7 +38,7 @@ close-line-spec =
     tie.close
     (tie.spec
     skip-requires
-    kind-at-requires
+    look-requires
     line-link-requires
     set-instruction-link-requires
     same-length

@@ -6,30 +6,30 @@ use Rattle.emit_leaves.proofs.close_slot.Reads as reads
 use Rattle.emit_leaves.proofs.close_slot.Lts as lts
 use Rattle.emit_leaves.proofs.skip.Reads as skip-reads
 use Rattle.emit_leaves.proofs.slot_link.Reads as slot-link-reads
-use Rattle.grammar.proofs.kind_at.Reads as kind-at-reads
+use Rattle.grammar.proofs.look.Reads as look-reads
 use Rattle.table_updates.proofs.set_slot_link.Reads as set-slot-link-reads
 
--- src/lib.rt:189:9
+-- src/lib.rt:200:9
 skip-requires : tie.Need-skip-requires
 skip-requires c κs = search needs
 
--- src/lib.rt:190:9
-kind-at-requires : tie.Need-kind-at-requires
-kind-at-requires c κs = search needs
+-- src/lib.rt:201:9
+look-requires : tie.Need-look-requires
+look-requires c κs = search needs
 
--- src/lib.rt:191:9
+-- src/lib.rt:202:9
 slot-link-requires : tie.Need-slot-link-requires
 slot-link-requires c κs = search needs
 
--- src/lib.rt:192:5
+-- src/lib.rt:203:5
 set-slot-link-requires : tie.Need-set-slot-link-requires
 set-slot-link-requires c κs = search needs
 
--- src/lib.rt:186:1
+-- src/lib.rt:197:1
 same-length : tie.Need-same-length
 same-length c = search needs
 
--- src/lib.rt:186:1
+-- src/lib.rt:197:1
 returns : tie.Need-returns
 returns c = search slot-end
 
@@ -38,7 +38,7 @@ close-slot-spec =
     tie.close
     (tie.spec
     skip-requires
-    kind-at-requires
+    look-requires
     slot-link-requires
     set-slot-link-requires
     same-length

@@ -6,40 +6,40 @@ use Rattle.emit_leaves.proofs.open_block.Reads as reads
 use Rattle.emit_leaves.proofs.open_block.Lts as lts
 use Rattle.emit_leaves.proofs.first_place.Reads as first-place-reads
 use Rattle.emit_steps.proofs.one_code.Reads as one-code-reads
-use Rattle.emit_steps.proofs.pass_two.Reads as pass-two-reads
-use Rattle.grammar.proofs.kind_at.Reads as kind-at-reads
+use Rattle.emit_steps.proofs.pass.Reads as pass-reads
+use Rattle.grammar.proofs.look.Reads as look-reads
 use Rattle.table_updates.proofs.set_code_first.Reads as set-code-first-reads
 use Rattle.table_updates.proofs.set_expression.Reads as set-expression-reads
 
--- src/lib.rt:145:9
-pass-two-requires : tie.Need-pass-two-requires
-pass-two-requires c κs = search needs
+-- src/lib.rt:151:9
+pass-requires : tie.Need-pass-requires
+pass-requires c κs = search needs
 
--- src/lib.rt:146:9
-kind-at-requires : tie.Need-kind-at-requires
-kind-at-requires c κs = search needs
+-- src/lib.rt:152:9
+look-requires : tie.Need-look-requires
+look-requires c κs = search needs
 
--- src/lib.rt:147:9
+-- src/lib.rt:153:9
 first-place-requires : tie.Need-first-place-requires
 first-place-requires c κs = search needs
 
--- src/lib.rt:148:5
+-- src/lib.rt:154:5
 set-code-first-requires : tie.Need-set-code-first-requires
 set-code-first-requires c κs = search needs
 
--- src/lib.rt:149:5
+-- src/lib.rt:155:5
 set-expression-requires : tie.Need-set-expression-requires
 set-expression-requires c κs = search needs
 
--- src/lib.rt:150:5
+-- src/lib.rt:156:9
 one-code-requires : tie.Need-one-code-requires
 one-code-requires c κs = search needs
 
--- src/lib.rt:142:1
+-- src/lib.rt:147:1
 same-length : tie.Need-same-length
 same-length c = search needs
 
--- src/lib.rt:142:1
+-- src/lib.rt:147:1
 returns : tie.Need-returns
 returns c = search block-one
 
@@ -47,8 +47,8 @@ pub open-block-spec : {M : Type 1} → statement M
 open-block-spec =
     tie.close
     (tie.spec
-    pass-two-requires
-    kind-at-requires
+    pass-requires
+    look-requires
     first-place-requires
     set-code-first-requires
     set-expression-requires

@@ -5,30 +5,23 @@ use Rattle.emit_leaves.proofs.string.Tie as tie
 use Rattle.emit_leaves.proofs.string.Reads as reads
 use Rattle.emit_leaves.proofs.string.Lts as lts
 use Rattle.emit_steps.proofs.one_string.Reads as one-string-reads
-use Rattle.emit_steps.proofs.pass.Reads as pass-reads
 use Rattle.table_updates.proofs.set_expression.Reads as set-expression-reads
 
--- src/lib.rt:74:9
-pass-requires : tie.Need-pass-requires
-pass-requires c κs = search needs
-
--- src/lib.rt:75:5
+-- src/lib.rt:73:5
 set-expression-requires : tie.Need-set-expression-requires
 set-expression-requires c κs = search needs
 
--- src/lib.rt:76:5
+-- src/lib.rt:74:5
 one-string-requires : tie.Need-one-string-requires
 one-string-requires c κs = search needs
 
--- src/lib.rt:71:1
+-- src/lib.rt:69:1
 same-length : tie.Need-same-length
 same-length c = search needs
 
--- src/lib.rt:71:1
+-- src/lib.rt:69:1
 returns : tie.Need-returns
 returns c = search string-one
 
 pub string-spec : {M : Type 1} → statement M
-string-spec =
-    tie.close
-    (tie.spec pass-requires set-expression-requires one-string-requires same-length returns)
+string-spec = tie.close (tie.spec set-expression-requires one-string-requires same-length returns)

@@ -10,59 +10,50 @@ use Rattle.emit_literals.proofs.write_literals.Tie as tie
 use Rattle.emit_literals.proofs.write_literals.Reads as reads
 use Rattle.emit_literals.proofs.write_literals.Lts as lts
 use Rattle.emit_literals.proofs.write_literal.Reads as write-literal-reads
-use Rattle.token.proofs.token_at.Reads as token-at-reads
+use Rattle.token.proofs.token_in.Reads as token-in-reads
 
 abbrev Inv-loop : tie.InvT-loop
-Inv-loop s p₀ l₀ k₀ at₀ p l k at = Passing s p₀ l₀ p l k at
+Inv-loop s p₀ l₀ classes k₀ at₀ p l k at = Passing s p₀ l₀ p l k at
 
 abbrev μ-loop : tie.MeasureT-loop
-μ-loop s p₀ l₀ k₀ at₀ p l k at = length s - at
+μ-loop s p₀ l₀ classes k₀ at₀ p l k at = length s - at
 
--- src/lib.rt:51:5
+classes-requires : tie.Need-classes-requires Inv-loop μ-loop
+classes-requires c κs = search needs
+
 loop-holds : tie.Need-loop-holds Inv-loop μ-loop
 loop-holds c = search passing-start
 
--- src/lib.rt:52:13
-token-at-requires : tie.Need-token-at-requires Inv-loop μ-loop
-token-at-requires c κs = search needs
+token-in-requires : tie.Need-token-in-requires Inv-loop μ-loop
+token-in-requires c κs = search needs
 
--- src/lib.rt:53:30
 enum-known-t : tie.Need-enum-known-t Inv-loop μ-loop
 enum-known-t c = search needs
 
--- src/lib.rt:54:13
 same-length : tie.Need-same-length Inv-loop μ-loop
 same-length c = search needs
 
--- src/lib.rt:54:13
 same-length-2 : tie.Need-same-length-2 Inv-loop μ-loop
 same-length-2 c = search needs
 
--- src/lib.rt:54:13
 returns : tie.Need-returns Inv-loop μ-loop
 returns c = search passing-none
 
--- src/lib.rt:56:9
 write-literal-requires : tie.Need-write-literal-requires Inv-loop μ-loop
 write-literal-requires c κs = search passing-counted
 
--- src/lib.rt:51:5
 loop-less : tie.Need-loop-less Inv-loop μ-loop
 loop-less c = search token-less
 
--- src/lib.rt:51:5
 loop-again : tie.Need-loop-again Inv-loop μ-loop
 loop-again c = search passing-again
 
--- src/lib.rt:45:1
 same-length-3 : tie.Need-same-length-3 Inv-loop μ-loop
 same-length-3 c = search needs
 
--- src/lib.rt:45:1
 same-length-4 : tie.Need-same-length-4 Inv-loop μ-loop
 same-length-4 c = search needs
 
--- src/lib.rt:45:1
 returns-2 : tie.Need-returns-2 Inv-loop μ-loop
 returns-2 c = search passing-done
 
@@ -72,8 +63,9 @@ write-literals-spec =
     (tie.spec
     Inv-loop
     μ-loop
+    classes-requires
     loop-holds
-    token-at-requires
+    token-in-requires
     enum-known-t
     same-length
     same-length-2

@@ -10,71 +10,59 @@ use Rattle.emit_names.proofs.keep_names.Tie as tie
 use Rattle.emit_names.proofs.keep_names.Reads as reads
 use Rattle.emit_names.proofs.keep_names.Lts as lts
 use Rattle.emit_names.proofs.keep.Reads as keep-reads
-use Rattle.token.proofs.token_at.Reads as token-at-reads
+use Rattle.token.proofs.token_in.Reads as token-in-reads
 
 abbrev Inv-loop : tie.InvT-loop
-Inv-loop s begins₀ ends₀ n₀ at₀ begins ends n at = Keeping s begins ends n at
+Inv-loop s begins₀ ends₀ classes n₀ at₀ begins ends n at = Keeping s begins ends n at
 
 abbrev μ-loop : tie.MeasureT-loop
-μ-loop s begins₀ ends₀ n₀ at₀ begins ends n at = length s - at
+μ-loop s begins₀ ends₀ classes n₀ at₀ begins ends n at = length s - at
 
--- src/lib.rt:73:5
+classes-requires : tie.Need-classes-requires Inv-loop μ-loop
+classes-requires c κs = search needs
+
 loop-holds : tie.Need-loop-holds Inv-loop μ-loop
 loop-holds c = search keeping-start
 
--- src/lib.rt:74:13
-token-at-requires : tie.Need-token-at-requires Inv-loop μ-loop
-token-at-requires c κs = search needs
+token-in-requires : tie.Need-token-in-requires Inv-loop μ-loop
+token-in-requires c κs = search needs
 
--- src/lib.rt:75:30
 enum-known-t : tie.Need-enum-known-t Inv-loop μ-loop
 enum-known-t c = search needs
 
--- src/lib.rt:76:13
 same-length : tie.Need-same-length Inv-loop μ-loop
 same-length c = search needs
 
--- src/lib.rt:76:13
 same-length-2 : tie.Need-same-length-2 Inv-loop μ-loop
 same-length-2 c = search needs
 
--- src/lib.rt:76:13
 returns : tie.Need-returns Inv-loop μ-loop
 returns c = search keeping-none
 
--- src/lib.rt:78:9
 keep-requires : tie.Need-keep-requires Inv-loop μ-loop
 keep-requires c κs = search keeping-few
 
--- src/lib.rt:80:13
 same-length-3 : tie.Need-same-length-3 Inv-loop μ-loop
 same-length-3 c = search needs
 
--- src/lib.rt:80:13
 same-length-4 : tie.Need-same-length-4 Inv-loop μ-loop
 same-length-4 c = search needs
 
--- src/lib.rt:80:13
 returns-2 : tie.Need-returns-2 Inv-loop μ-loop
 returns-2 c = search keeping-many
 
--- src/lib.rt:73:5
 loop-less : tie.Need-loop-less Inv-loop μ-loop
 loop-less c = search token-less
 
--- src/lib.rt:73:5
 loop-again : tie.Need-loop-again Inv-loop μ-loop
 loop-again c = search keeping-again
 
--- src/lib.rt:67:1
 same-length-5 : tie.Need-same-length-5 Inv-loop μ-loop
 same-length-5 c = search needs
 
--- src/lib.rt:67:1
 same-length-6 : tie.Need-same-length-6 Inv-loop μ-loop
 same-length-6 c = search needs
 
--- src/lib.rt:67:1
 returns-3 : tie.Need-returns-3 Inv-loop μ-loop
 returns-3 c = search keeping-done
 
@@ -84,8 +72,9 @@ keep-names-spec =
     (tie.spec
     Inv-loop
     μ-loop
+    classes-requires
     loop-holds
-    token-at-requires
+    token-in-requires
     enum-known-t
     same-length
     same-length-2

@@ -1,4 +1,4 @@
-use Rattle.emit_paths.proofs.Laws.{path-up, path-self}
+use Rattle.emit_paths.proofs.Laws.{path-self, path-up}
 use borrow.Author.Needs.{needs}
 use Rattle.emit_paths.proofs.emit_path.Statement.{statement}
 use Rattle.emit_paths.proofs.emit_path.Tie as tie
@@ -7,49 +7,43 @@ use Rattle.emit_paths.proofs.emit_path.Lts as lts
 use Rattle.emit_paths.proofs.dotted.Reads as dotted-reads
 use Rattle.emit_paths.proofs.up_path.Reads as up-path-reads
 use Rattle.emit_steps.proofs.go_to.Reads as go-to-reads
-use Rattle.emit_steps.proofs.pass.Reads as pass-reads
 
--- src/lib.rt:114:9
-pass-requires : tie.Need-pass-requires
-pass-requires c κs = search needs
-
--- src/lib.rt:116:9
-up-path-requires : tie.Need-up-path-requires
-up-path-requires c κs = search needs
-
--- src/lib.rt:116:9
-same-length : tie.Need-same-length
-same-length c = search needs
-
--- src/lib.rt:116:9
-returns : tie.Need-returns
-returns c = search path-up
-
--- src/lib.rt:118:9
+-- src/lib.rt:120:13
 go-to-requires : tie.Need-go-to-requires
 go-to-requires c κs = search needs
 
--- src/lib.rt:119:5
+-- src/lib.rt:121:9
 dotted-requires : tie.Need-dotted-requires
 dotted-requires c κs = search needs
 
--- src/lib.rt:103:1
+-- src/lib.rt:121:9
+same-length : tie.Need-same-length
+same-length c = search needs
+
+-- src/lib.rt:121:9
+returns : tie.Need-returns
+returns c = search path-self
+
+-- src/lib.rt:123:5
+up-path-requires : tie.Need-up-path-requires
+up-path-requires c κs = search needs
+
+-- src/lib.rt:106:1
 same-length-2 : tie.Need-same-length-2
 same-length-2 c = search needs
 
--- src/lib.rt:103:1
+-- src/lib.rt:106:1
 returns-2 : tie.Need-returns-2
-returns-2 c = search path-self
+returns-2 c = search path-up
 
 pub emit-path-spec : {M : Type 1} → statement M
 emit-path-spec =
     tie.close
     (tie.spec
-    pass-requires
-    up-path-requires
-    same-length
-    returns
     go-to-requires
     dotted-requires
+    same-length
+    returns
+    up-path-requires
     same-length-2
     returns-2)

@@ -8,44 +8,32 @@ use Rattle.emit_paths.proofs.dotted.Reads as dotted-reads
 use Rattle.emit_paths.proofs.holder.Reads as holder-reads
 use Rattle.emit_paths.proofs.ups.Reads as ups-reads
 use Rattle.emit_steps.proofs.go_to.Reads as go-to-reads
-use Rattle.emit_steps.proofs.pass.Reads as pass-reads
 
--- src/lib.rt:95:9
-pass-requires : tie.Need-pass-requires
-pass-requires c κs = search needs
-
--- src/lib.rt:96:9
+-- src/lib.rt:99:9
 ups-requires : tie.Need-ups-requires
 ups-requires c κs = search needs
 
--- src/lib.rt:97:9
+-- src/lib.rt:100:9
 go-to-requires : tie.Need-go-to-requires
 go-to-requires c κs = search needs
 
--- src/lib.rt:98:9
+-- src/lib.rt:101:9
 holder-requires : tie.Need-holder-requires
 holder-requires c κs = search needs
 
--- src/lib.rt:99:5
+-- src/lib.rt:102:5
 dotted-requires : tie.Need-dotted-requires
 dotted-requires c κs = search needs
 
--- src/lib.rt:84:1
+-- src/lib.rt:86:1
 same-length : tie.Need-same-length
 same-length c = search needs
 
--- src/lib.rt:84:1
+-- src/lib.rt:86:1
 returns : tie.Need-returns
 returns c = search up-emits
 
 pub up-path-spec : {M : Type 1} → statement M
 up-path-spec =
     tie.close
-    (tie.spec
-    pass-requires
-    ups-requires
-    go-to-requires
-    holder-requires
-    dotted-requires
-    same-length
-    returns)
+    (tie.spec ups-requires go-to-requires holder-requires dotted-requires same-length returns)

@@ -4,8 +4,8 @@ use lib.ListN.{length}
 use Prim.Native.Nat.{_+_, _*_, _-_}
 use Rattle.names.specs.Kept.{table-of}
 use Rattle.emit_tree.specs.Members.{slots-emitted, code-emitted, SlotsHere, CodeHere}
-use Rattle.emit_tree.proofs.Bases.{operand-falls, right-falls, operand-done, right-done, block-none, block-falls, block-done, base-block, base-path, base-integer, base-string, negation-done, binary-done, frame-none, frame-falls, frame-done, expression-frame, expression-not, expression-binary, expression-base}
-use Rattle.emit_tree.proofs.Lists.{Going, slot-falls, slot-done, slots-start, slots-end, slots-none, slots-again, show-done, jump-done, ifeq-done, assign-done, instruction-show, instruction-jump, instruction-ifeq, instruction-assign, line-falls, line-done, lines-start, lines-end, lines-none, lines-stuck, lines-again}
+use Rattle.emit_tree.proofs.Bases.{operand-falls, right-falls, binary-falls, binary-falls-2, first-falls, second-falls, third-falls, seen-expression, seen-instruction, operand-done, right-done, block-none, block-falls, block-done, base-block, base-path, base-integer, base-string, negation-done, binary-done, frame-none, frame-falls, frame-done, expression-frame, expression-not, expression-binary, expression-base}
+use Rattle.emit_tree.proofs.Lists.{Going, slot-falls, slot-done, slots-start, slots-end, slots-other, slots-none, slots-again, show-done, jump-done, ifeq-done, assign-done, instruction-show, instruction-jump, instruction-ifeq, instruction-assign, line-falls, line-done, lines-start, lines-end, lines-none, lines-stuck, lines-again}
 use Prim.Native.Nat.{ℕ, _<_}
 use borrow.Fn.Kinds.{In}
 use borrow.Fn.PlainCycle.{Measures, is, falls, and}
@@ -75,10 +75,10 @@ use Rattle.emit_leaves.proofs.assign_target.Reads as assign-target-reads
 use Rattle.emit_steps.proofs.go_to.Reads as go-to-reads
 use Rattle.emit_steps.proofs.one_expression.Reads as one-expression-reads
 use Rattle.emit_steps.proofs.one_instruction.Reads as one-instruction-reads
-use Rattle.emit_steps.proofs.pass_two.Reads as pass-two-reads
+use Rattle.emit_steps.proofs.pass.Reads as pass-reads
 use Rattle.emit_steps.proofs.within_code.Reads as within-code-reads
 use Rattle.emit_steps.proofs.within_slot.Reads as within-slot-reads
-use Rattle.grammar.proofs.kind_at.Reads as kind-at-reads
+use Rattle.grammar.proofs.look.Reads as look-reads
 use Rattle.table_updates.proofs.set_expression.Reads as set-expression-reads
 use Rattle.table_updates.proofs.set_instruction.Reads as set-instruction-reads
 use Rattle.emit_tree.proofs.+assigning+base+binary+block+branching+expression+frame+instruction+instructions+jumping+line+negation+operand+right+showing+slot+slots.{
@@ -255,16 +255,16 @@ abbrev slots-below : ℕ → In 4 slots-kinds.ps
 slots-below t = and 4 slots-kinds.ps (falls 4 slots-kinds.ps _<_ μ-slots t) slots.Pre
 
 abbrev instructions-Inv-loop : instructions-lts.InvT-loop
-instructions-Inv-loop s begins ends count p₀ place m₀ p m = Going (CodeHere place) (code-emitted place) s (table-of s begins ends count) m₀ p₀ m p
+instructions-Inv-loop s begins ends count p₀ place m₀ t₀ p m t = Going (CodeHere place) (code-emitted place) s (table-of s begins ends count) m₀ p₀ m p t
 
 abbrev instructions-μ-loop : instructions-lts.MeasureT-loop
-instructions-μ-loop s begins ends count p₀ place m₀ p m = length s - m .at
+instructions-μ-loop s begins ends count p₀ place m₀ t₀ p m t = length s - m .at
 
 abbrev slots-Inv-loop : slots-lts.InvT-loop
-slots-Inv-loop s begins ends count p₀ place m₀ p m = Going (SlotsHere place) (slots-emitted place) s (table-of s begins ends count) m₀ p₀ m p
+slots-Inv-loop s begins ends count p₀ place m₀ t₀ p m t = Going (SlotsHere place) (slots-emitted place) s (table-of s begins ends count) m₀ p₀ m p t
 
 abbrev slots-μ-loop : slots-lts.MeasureT-loop
-slots-μ-loop s begins ends count p₀ place m₀ p m = length s - m .at
+slots-μ-loop s begins ends count p₀ place m₀ t₀ p m t = length s - m .at
 
 pub +assigning+base+binary+block+branching+expression+frame+instruction+instructions+jumping+line+negation+operand+right+showing+slot+slots-spec :
     {M : Type 1} → statement M
@@ -296,11 +296,10 @@ pub +assigning+base+binary+block+branching+expression+frame+instruction+instruct
     (λ c. search needs)
     (λ c. search assign-done))
     (λ t. base-lts.spec
-    (kind-at-reads.Asked, kind-at-reads.Learnt, block-below t, block.Post, path-base-reads.Asked, path-base-reads.Learnt, integer-reads.Asked, integer-reads.Learnt, string-reads.Asked, string-reads.Learnt)
+    (block-below t, block.Post, path-base-reads.Asked, path-base-reads.Learnt, integer-reads.Asked, integer-reads.Learnt, string-reads.Asked, string-reads.Learnt)
     (base-at t)
     base.Post
-    (λ c κs. search needs)
-    (λ c κs. (omega arith, tt))
+    (λ c κs. (omega arith, search needs))
     (λ c. search needs)
     (λ c. search base-block)
     (λ c κs. search needs)
@@ -313,12 +312,13 @@ pub +assigning+base+binary+block+branching+expression+frame+instruction+instruct
     (λ c. search needs)
     (λ c. search base-string))
     (λ t. binary-lts.spec
-    (operand-below t, operand.Post, operator-reads.Asked, operator-reads.Learnt)
+    (one-expression-reads.Asked, one-expression-reads.Learnt, base-below t, base.Post, operator-reads.Asked, operator-reads.Learnt, operand-below t, operand.Post)
     (binary-at t)
     binary.Post
-    (λ c κs. (omega arith, tt))
     (λ c κs. search needs)
-    (λ c κs. (omega arith, tt))
+    (λ c κs. (search binary-falls, search seen-expression))
+    (λ c κs. search needs)
+    (λ c κs. (search binary-falls-2, tt))
     (λ c. search needs)
     (λ c. search binary-done))
     (λ t. block-lts.spec
@@ -329,37 +329,36 @@ pub +assigning+base+binary+block+branching+expression+frame+instruction+instruct
     (λ c. search needs)
     (λ c. search block-none)
     (λ c κs. search needs)
-    (λ c κs. (search block-falls, tt))
+    (λ c κs. (search block-falls, search needs))
     (λ c κs. search needs)
     (λ c. search needs)
-    (λ c. search block-done))
+    (λ c. block-done _ _ _ _ _ _ _ _ (c .before .before .before .before .before .before .before .before .before .before .before .before .before .open-block .ensures .done) _ (c .before .before .before .before .before .before .within-code .ensures) _ _ (c .before .before .before .instructions .ensures) _ (c .skip .ensures)))
     (λ t. branching-lts.spec
-    (skip-reads.Asked, skip-reads.Learnt, operand-below t, operand.Post, set-instruction-reads.Asked, set-instruction-reads.Learnt)
+    (go-to-reads.Asked, go-to-reads.Learnt, operand-below t, operand.Post, set-instruction-reads.Asked, set-instruction-reads.Learnt)
     (branching-at t)
     branching.Post
     (λ c κs. search needs)
-    (λ c κs. (omega arith, tt))
-    (λ c κs. (omega arith, tt))
+    (λ c κs. (search first-falls, tt))
+    (λ c κs. (search second-falls, tt))
     (λ c κs. search needs)
-    (λ c κs. (omega (arith, c .before .before .before .before .before .before .before .before .before .before .before .before .before .before .before .before .before .before .pre .0, c .before .before .before .before .before .before .before .before .before .before .before .before .before .skip .ensures .pass .on, c .before .before .before .before .before .before .before .before .before .before .before .operand .ensures .on, c .before .before .before .before .before .before .before .operand2 .ensures .on), tt))
+    (λ c κs. (third-falls _ _ _ (c .before .before .before .before .before .before .before .before .before .before .before .before .before .before .before .before .before .before .pre .1) _ (c .before .before .before .before .before .before .before .before .before .before .before .before .before .go-to .ensures) _ _ (c .before .before .before .before .before .before .before .before .before .before .before .operand .ensures .on) (c .before .before .before .before .before .before .before .operand2 .ensures .on) _ (c .before .before .before .before .before .before .before .before .before .before .before .before .before .before .before .before .before .before .pre .0), tt))
     (λ c. search needs)
-    (λ c. search ifeq-done))
+    (λ c. ifeq-done _ _ _ _ _ _ _ (c .before .before .before .before .before .before .before .before .before .before .before .before .before .before .before .before .before .before .before .before .before .pre .1) _ (c .before .before .before .before .before .before .before .before .before .before .before .before .before .before .before .before .go-to .ensures) _ _ (c .before .before .before .before .before .before .before .before .before .before .before .before .before .before .operand .ensures) _ _ (c .before .before .before .before .before .before .before .before .before .before .operand2 .ensures) _ (c .before .before .before .before .before .before .set-instruction .ensures) _ _ (c .before .before .operand3 .ensures)))
     (λ t. expression-lts.spec
-    (kind-at-reads.Asked, kind-at-reads.Learnt, frame-below t, frame.Post, negation-below t, negation.Post, operator-after-reads.Asked, operator-after-reads.Learnt, binary-below t, binary.Post, base-below t, base.Post)
+    (frame-below t, frame.Post, negation-below t, negation.Post, operator-after-reads.Asked, operator-after-reads.Learnt, binary-below t, binary.Post, base-below t, base.Post)
     (expression-at t)
     expression.Post
-    (λ c κs. search needs)
-    (λ c κs. (omega arith, tt))
+    (λ c κs. (omega arith, search needs))
     (λ c. search needs)
     (λ c. search expression-frame)
-    (λ c κs. (omega arith, tt))
+    (λ c κs. (omega arith, search needs))
     (λ c. search needs)
     (λ c. search expression-not)
     (λ c κs. search needs)
-    (λ c κs. (omega arith, tt))
+    (λ c κs. (omega arith, search needs))
     (λ c. search needs)
     (λ c. search expression-binary)
-    (λ c κs. (omega arith, tt))
+    (λ c κs. (omega arith, search needs))
     (λ c. search needs)
     (λ c. search expression-base))
     (λ t. frame-lts.spec
@@ -369,38 +368,36 @@ pub +assigning+base+binary+block+branching+expression+frame+instruction+instruct
     (λ c κs. search needs)
     (λ c. search needs)
     (λ c. search frame-none)
-    (λ c κs. (search frame-falls, tt))
+    (λ c κs. (search frame-falls, search needs))
     (λ c κs. search needs)
     (λ c. search needs)
     (λ c. search frame-done))
     (λ t. instruction-lts.spec
-    (kind-at-reads.Asked, kind-at-reads.Learnt, showing-below t, showing.Post, jumping-below t, jumping.Post, branching-below t, branching.Post, assigning-below t, assigning.Post)
+    (showing-below t, showing.Post, jumping-below t, jumping.Post, branching-below t, branching.Post, assigning-below t, assigning.Post)
     (instruction-at t)
     instruction.Post
-    (λ c κs. search needs)
-    (λ c κs. (omega arith, tt))
+    (λ c κs. (omega arith, search needs))
     (λ c. search needs)
     (λ c. search instruction-show)
-    (λ c κs. (omega arith, tt))
+    (λ c κs. (omega arith, search needs))
     (λ c. search needs)
     (λ c. search instruction-jump)
-    (λ c κs. (omega arith, tt))
+    (λ c κs. (omega arith, search needs))
     (λ c. search needs)
     (λ c. search instruction-ifeq)
-    (λ c κs. (omega arith, tt))
+    (λ c κs. (omega arith, search needs))
     (λ c. search needs)
     (λ c. search instruction-assign))
     (λ t. instructions-lts.spec
-    (kind-at-reads.Asked, kind-at-reads.Learnt, line-below t, line.Post)
+    (line-below t, line.Post)
     (instructions-at t)
     instructions.Post
     instructions-Inv-loop
     instructions-μ-loop
     (λ c. search lines-start)
-    (λ c κs. search needs)
     (λ c. search needs)
     (λ c. search lines-none)
-    (λ c κs. (omega arith, tt))
+    (λ c κs. (omega arith, search needs))
     (λ c. search needs)
     (λ c. search lines-stuck)
     (λ c. omega arith)
@@ -408,56 +405,58 @@ pub +assigning+base+binary+block+branching+expression+frame+instruction+instruct
     (λ c. search needs)
     (λ c. search lines-end))
     (λ t. jumping-lts.spec
-    (skip-reads.Asked, skip-reads.Learnt, operand-below t, operand.Post, set-instruction-reads.Asked, set-instruction-reads.Learnt)
+    (go-to-reads.Asked, go-to-reads.Learnt, operand-below t, operand.Post, set-instruction-reads.Asked, set-instruction-reads.Learnt)
     (jumping-at t)
     jumping.Post
     (λ c κs. search needs)
-    (λ c κs. (omega arith, tt))
+    (λ c κs. (search first-falls, tt))
     (λ c κs. search needs)
-    (λ c κs. (omega arith, tt))
+    (λ c κs. (search second-falls, tt))
     (λ c. search needs)
-    (λ c. search jump-done))
+    (λ c. jump-done _ _ _ _ _ _ _ (c .before .before .before .before .before .before .before .before .before .before .before .before .before .before .before .before .before .pre .1) _ (c .before .before .before .before .before .before .before .before .before .before .before .before .go-to .ensures) _ _ (c .before .before .before .before .before .before .before .before .before .before .operand .ensures) _ (c .before .before .before .before .before .before .set-instruction .ensures) _ _ (c .before .before .operand2 .ensures)))
     (λ t. line-lts.spec
     (one-instruction-reads.Asked, one-instruction-reads.Learnt, instruction-below t, instruction.Post, close-line-reads.Asked, close-line-reads.Learnt)
     (line-at t)
     line.Post
     (λ c κs. search needs)
-    (λ c κs. (search line-falls, tt))
+    (λ c κs. (search line-falls, search seen-instruction))
     (λ c κs. search needs)
     (λ c. search needs)
     (λ c. search line-done))
     (λ t. negation-lts.spec
-    (skip-reads.Asked, skip-reads.Learnt, set-expression-reads.Asked, set-expression-reads.Learnt, operand-below t, operand.Post)
+    (go-to-reads.Asked, go-to-reads.Learnt, set-expression-reads.Asked, set-expression-reads.Learnt, operand-below t, operand.Post)
     (negation-at t)
     negation.Post
     (λ c κs. search needs)
     (λ c κs. search needs)
-    (λ c κs. (omega arith, tt))
+    (λ c κs. (search first-falls, tt))
     (λ c. search needs)
     (λ c. search negation-done))
     (λ t. operand-lts.spec
-    (one-expression-reads.Asked, one-expression-reads.Learnt, base-below t, base.Post)
+    (one-expression-reads.Asked, one-expression-reads.Learnt, look-reads.Asked, look-reads.Learnt, base-below t, base.Post)
     (operand-at t)
     operand.Post
     (λ c κs. search needs)
-    (λ c κs. (search operand-falls, tt))
+    (λ c κs. search needs)
+    (λ c κs. (search operand-falls, search needs))
     (λ c. search needs)
     (λ c. search operand-done))
     (λ t. right-lts.spec
-    (one-expression-reads.Asked, one-expression-reads.Learnt, expression-below t, expression.Post)
+    (one-expression-reads.Asked, one-expression-reads.Learnt, look-reads.Asked, look-reads.Learnt, expression-below t, expression.Post)
     (right-at t)
     right.Post
     (λ c κs. search needs)
-    (λ c κs. (search right-falls, tt))
+    (λ c κs. search needs)
+    (λ c κs. (search right-falls, search needs))
     (λ c. search needs)
     (λ c. search right-done))
     (λ t. showing-lts.spec
-    (skip-reads.Asked, skip-reads.Learnt, set-instruction-reads.Asked, set-instruction-reads.Learnt, operand-below t, operand.Post)
+    (go-to-reads.Asked, go-to-reads.Learnt, set-instruction-reads.Asked, set-instruction-reads.Learnt, operand-below t, operand.Post)
     (showing-at t)
     showing.Post
     (λ c κs. search needs)
     (λ c κs. search needs)
-    (λ c κs. (omega arith, tt))
+    (λ c κs. (search first-falls, tt))
     (λ c. search needs)
     (λ c. search show-done))
     (λ t. slot-lts.spec
@@ -472,16 +471,18 @@ pub +assigning+base+binary+block+branching+expression+frame+instruction+instruct
     (λ c. search needs)
     (λ c. search slot-done))
     λ t. slots-lts.spec
-    (pass-two-reads.Asked, pass-two-reads.Learnt, slot-below t, slot.Post)
+    (pass-reads.Asked, pass-reads.Learnt, slot-below t, slot.Post)
     (slots-at t)
     slots.Post
     slots-Inv-loop
     slots-μ-loop
     (λ c. search slots-start)
+    (λ c. search needs)
+    (λ c. search slots-other)
     (λ c κs. search needs)
     (λ c. search needs)
     (λ c. search slots-none)
-    (λ c κs. (omega arith, tt))
+    (λ c κs. (omega arith, search needs))
     (λ c. omega arith)
     (λ c. search slots-again)
     (λ c. search needs)

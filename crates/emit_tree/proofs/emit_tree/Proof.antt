@@ -6,22 +6,28 @@ use Rattle.emit_tree.proofs.emit_tree.Reads as reads
 use Rattle.emit_tree.proofs.emit_tree.Lts as lts
 use Rattle.emit_steps.proofs.pass_frame.Reads as pass-frame-reads
 use Rattle.emit_tree.proofs.slots.Reads as slots-reads
+use Rattle.grammar.proofs.look.Reads as look-reads
 
--- src/lib.rt:382:9
+-- src/lib.rt:429:9
 pass-frame-requires : tie.Need-pass-frame-requires
 pass-frame-requires c κs = search needs
 
--- src/lib.rt:396:5
+-- src/lib.rt:443:9
+look-requires : tie.Need-look-requires
+look-requires c κs = search needs
+
+-- src/lib.rt:444:5
 slots-requires : tie.Need-slots-requires
 slots-requires c κs = search needs
 
--- src/lib.rt:379:1
+-- src/lib.rt:426:1
 same-length : tie.Need-same-length
 same-length c = search needs
 
--- src/lib.rt:379:1
+-- src/lib.rt:426:1
 returns : tie.Need-returns
 returns c = search tree-done
 
 pub emit-tree-spec : {M : Type 1} → statement M
-emit-tree-spec = tie.close (tie.spec pass-frame-requires slots-requires same-length returns)
+emit-tree-spec =
+    tie.close (tie.spec pass-frame-requires look-requires slots-requires same-length returns)

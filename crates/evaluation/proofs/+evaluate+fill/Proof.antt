@@ -2,8 +2,8 @@ use Prim.Native.Nat.{ℕ, _<_, _-_, _*_}
 use mathlib.Core.Path.{refl}
 use native.Mathlib.Omega.{arith}
 use borrow.Author.Needs.{needs}
-use Rattle.evaluation.proofs.Laws.{slots-left, evaluate-flat, evaluate-can-fill, evaluate-falls, evaluate-frame}
-use Rattle.evaluation.proofs.Laws.{fill-none, fill-can-evaluate, fill-falls, fill-can-go-on, fill-on-falls, fill-again}
+use Rattle.evaluation.proofs.Laws.{slots-left, evaluate-flat, evaluate-can-fill, evaluate-full, evaluate-falls, evaluate-frame}
+use Rattle.evaluation.proofs.Laws.{fill-none, fill-can-evaluate, fill-falls, fill-can-go-on, fill-full, fill-on-falls, fill-again}
 use borrow.Fn.Kinds.{In}
 use borrow.Fn.PlainCycle.{Measures, is, falls, and}
 use Rattle.evaluation.proofs.evaluate.Reads as evaluate
@@ -74,7 +74,7 @@ evaluate-link-requires : (t : ℕ) → evaluate-lts.Need-link-requires (evaluate
 evaluate-link-requires t c κs = search needs
 
 evaluate-fill-requires : (t : ℕ) → evaluate-lts.Need-fill-requires (evaluate-calls t) (evaluate-at t) evaluate.Post
-evaluate-fill-requires t c κs = (search evaluate-falls, search evaluate-can-fill)
+evaluate-fill-requires t c κs = (search evaluate-falls, (search evaluate-can-fill, search evaluate-full))
 
 evaluate-same-length-3 : (t : ℕ) → evaluate-lts.Need-same-length-3 (evaluate-calls t) (evaluate-at t) evaluate.Post
 evaluate-same-length-3 t c = search needs
@@ -92,7 +92,7 @@ fill-sub-y : (t : ℕ) → fill-lts.Need-sub-y (fill-calls t) (fill-at t) fill.P
 fill-sub-y t c = omega arith
 
 fill-evaluate-requires : (t : ℕ) → fill-lts.Need-evaluate-requires (fill-calls t) (fill-at t) fill.Post
-fill-evaluate-requires t c κs = (search fill-falls, search fill-can-evaluate)
+fill-evaluate-requires t c κs = (search fill-falls, (search fill-can-evaluate, search needs))
 
 fill-slot-name-requires : (t : ℕ) → fill-lts.Need-slot-name-requires (fill-calls t) (fill-at t) fill.Post
 fill-slot-name-requires t c κs = search needs
@@ -104,7 +104,7 @@ fill-slot-after-requires : (t : ℕ) → fill-lts.Need-slot-after-requires (fill
 fill-slot-after-requires t c κs = search needs
 
 fill-fill-requires : (t : ℕ) → fill-lts.Need-fill-requires (fill-calls t) (fill-at t) fill.Post
-fill-fill-requires t c κs = (search fill-on-falls, fill-can-go-on _ _ _ _ _ _ (c .before .before .before .before .before .before .before .before .before .before .before .before .before .before .before .before .before .before .before .before .pre .1) (c .before .before .before .before .before .before .before .before .before .before .before .before .before .before .before .if1 .left) _ refl _ _ _ (c .before .before .before .before .before .before .before .before .before .before .before .before .evaluate .ensures) _ (c .before .before .before .before .before .before .slot-name .ensures) _ (c .before .before .before .before .before .add-slot .ensures) _ (c .slot-after .ensures))
+fill-fill-requires t c κs = (search fill-on-falls, (fill-can-go-on _ _ _ _ _ _ (c .before .before .before .before .before .before .before .before .before .before .before .before .before .before .before .before .before .before .before .before .pre .1 .0) (c .before .before .before .before .before .before .before .before .before .before .before .before .before .before .before .if1 .left) _ refl _ _ _ (c .before .before .before .before .before .before .before .before .before .before .before .before .evaluate .ensures) _ (c .before .before .before .before .before .before .slot-name .ensures) _ (c .before .before .before .before .before .add-slot .ensures) _ (c .slot-after .ensures), fill-full _ _ _ _ _ _ (c .before .before .before .before .before .before .before .before .before .before .before .before .before .before .before .before .before .before .before .before .pre .1 .0) (c .before .before .before .before .before .before .before .before .before .before .before .before .before .before .before .if1 .left) _ refl _ _ _ (c .before .before .before .before .before .before .before .before .before .before .before .before .evaluate .ensures) _ (c .before .before .before .before .before .before .slot-name .ensures) _ (c .before .before .before .before .before .add-slot .ensures) _ (c .slot-after .ensures) _ (c .before .before .before .before .before .before .before .before .before .before .before .before .before .before .before .before .before .before .before .before .pre .1 .1)))
 
 fill-same-length : (t : ℕ) → fill-lts.Need-same-length (fill-calls t) (fill-at t) fill.Post
 fill-same-length t c = search needs
@@ -113,7 +113,7 @@ fill-same-length-2 : (t : ℕ) → fill-lts.Need-same-length-2 (fill-calls t) (f
 fill-same-length-2 t c = search needs
 
 fill-returns-2 : (t : ℕ) → fill-lts.Need-returns-2 (fill-calls t) (fill-at t) fill.Post
-fill-returns-2 t c = search fill-again
+fill-returns-2 t c = search (fill-again, c .before .before .before .before .before .before .before .before .before .before .before .before .before .before .before .before .before .before .before .before .before .before .before .before .before .pre .1 .0, c .before .before .before .before .before .before .before .before .before .before .before .before .before .before .before .before .before .before .before .before .if1 .left, c .before .before .before .before .before .before .before .before .before .before .before .before .before .before .before .before .before .evaluate .ensures, c .before .before .before .before .before .before .before .before .before .before .before .slot-name .ensures, c .before .before .before .before .before .before .before .before .before .before .add-slot .ensures, c .before .before .before .before .before .slot-after .ensures, c .before .before .before .before .fill .ensures)
 
 pub +evaluate+fill-spec : {M : Type 1} → statement M
 +evaluate+fill-spec = close μ-evaluate μ-fill (λ t. evaluate-lts.spec (evaluate-calls t)

@@ -11,47 +11,34 @@ use Rattle.lexeme.proofs.run_end.Reads as reads
 use Rattle.lexeme.proofs.run_end.Lts as lts
 use Rattle.lexeme.proofs.in_run.Reads as in-run-reads
 use Rattle.source.proofs.byte_at.Reads as byte-at-reads
-use Rattle.source.proofs.classes.Reads as classes-reads
 
 abbrev Inv-loop : tie.InvT-loop
-Inv-loop s at m classes i₀ i = Running class s m at i
+Inv-loop t s at m i₀ i = Running class s m at i
 
 abbrev μ-loop : tie.MeasureT-loop
-μ-loop s at m classes i₀ i = length s - i
+μ-loop t s at m i₀ i = length s - i
 
--- src/lib.rt:37:19
-classes-requires : tie.Need-classes-requires Inv-loop μ-loop
-classes-requires c κs = search needs
-
--- src/lib.rt:39:5
 loop-holds : tie.Need-loop-holds Inv-loop μ-loop
 loop-holds c = search running-start
 
--- src/lib.rt:40:13
 byte-at-requires : tie.Need-byte-at-requires Inv-loop μ-loop
 byte-at-requires c κs = search needs
 
--- src/lib.rt:41:13
 in-run-requires : tie.Need-in-run-requires Inv-loop μ-loop
 in-run-requires c κs = search needs
 
--- src/lib.rt:43:13
 returns : tie.Need-returns Inv-loop μ-loop
 returns c = search (running-stop, not-true)
 
--- src/lib.rt:45:9
 add-i : tie.Need-add-i Inv-loop μ-loop
 add-i c = search needs
 
--- src/lib.rt:39:5
 loop-less : tie.Need-loop-less Inv-loop μ-loop
 loop-less c = omega arith
 
--- src/lib.rt:39:5
 loop-again : tie.Need-loop-again Inv-loop μ-loop
 loop-again c = search (running-again, not-false)
 
--- src/lib.rt:34:1
 returns-2 : tie.Need-returns-2 Inv-loop μ-loop
 returns-2 c = search running-done
 
@@ -61,7 +48,6 @@ run-end-spec =
     (tie.spec
     Inv-loop
     μ-loop
-    classes-requires
     loop-holds
     byte-at-requires
     in-run-requires

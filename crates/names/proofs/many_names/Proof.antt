@@ -7,10 +7,10 @@ use Rattle.names.proofs.many_names.Statement.{statement}
 use Rattle.names.proofs.many_names.Tie as tie
 
 abbrev Inv-loop : tie.InvT-loop
-Inv-loop s begins₀ ends₀ n₀ at₀ begins ends n at = Naming s begins ends n at
+Inv-loop s classes begins₀ ends₀ n₀ at₀ begins ends n at = Naming s begins ends n at
 
 abbrev μ-loop : tie.MeasureT-loop
-μ-loop s begins₀ ends₀ n₀ at₀ begins ends n at = length s - at
+μ-loop s classes begins₀ ends₀ n₀ at₀ begins ends n at = length s - at
 
 loop-holds : tie.Need-loop-holds Inv-loop μ-loop
 loop-holds c = search naming-start
@@ -39,4 +39,4 @@ returns-4 c = search naming-done
 pub many-names-spec : {M : Type 1} → statement M
 many-names-spec =
     tie.close
-    (tie.spec Inv-loop μ-loop loop-holds (λ c κs. search needs) (λ c. search needs) returns (λ c. search needs) returns-2 (λ c. search needs) (λ c. search needs) (λ c. search needs) note-requires returns-3 loop-less loop-again returns-4)
+    (tie.spec Inv-loop μ-loop (λ c κs. search needs) loop-holds (λ c κs. search needs) (λ c. search needs) returns (λ c. search needs) returns-2 (λ c. search needs) (λ c. search needs) (λ c. search needs) note-requires returns-3 loop-less loop-again returns-4)

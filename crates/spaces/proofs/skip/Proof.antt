@@ -7,40 +7,29 @@ use Rattle.spaces.proofs.skip.Statement.{statement}
 use Rattle.spaces.proofs.skip.Tie as tie
 use Rattle.spaces.proofs.skip.Reads as reads
 use Rattle.spaces.proofs.skip.Lts as lts
-use Rattle.source.proofs.classes.Reads as classes-reads
 use Rattle.spaces.proofs.skip_one.Reads as skip-one-reads
 
 abbrev Inv-loop : tie.InvT-loop
-Inv-loop s at classes i₀ i = Skipping class s at i
+Inv-loop t s at i₀ i = Skipping class s at i
 
 abbrev μ-loop : tie.MeasureT-loop
-μ-loop s at classes i₀ i = length s - i
+μ-loop t s at i₀ i = length s - i
 
--- src/lib.rt:45:19
-classes-requires : tie.Need-classes-requires Inv-loop μ-loop
-classes-requires c κs = search needs
-
--- src/lib.rt:47:5
 loop-holds : tie.Need-loop-holds Inv-loop μ-loop
 loop-holds c = search skipping-start
 
--- src/lib.rt:48:13
 skip-one-requires : tie.Need-skip-one-requires Inv-loop μ-loop
 skip-one-requires c κs = search needs
 
--- src/lib.rt:50:13
 returns : tie.Need-returns Inv-loop μ-loop
 returns c = search skipping-stop
 
--- src/lib.rt:47:5
 loop-less : tie.Need-loop-less Inv-loop μ-loop
 loop-less c = search skipping-less
 
--- src/lib.rt:47:5
 loop-again : tie.Need-loop-again Inv-loop μ-loop
 loop-again c = search skipping-again
 
--- src/lib.rt:42:1
 returns-2 : tie.Need-returns-2 Inv-loop μ-loop
 returns-2 c = search skipping-done
 
@@ -50,7 +39,6 @@ skip-spec =
     (tie.spec
     Inv-loop
     μ-loop
-    classes-requires
     loop-holds
     skip-one-requires
     returns

@@ -1,4 +1,5 @@
 use Rattle.start_state.proofs.Laws.{written-can-fill, written-makes}
+use Rattle.allocation.proofs.Laws.{none-below}
 use borrow.Author.Needs.{needs}
 use Rattle.start_state.proofs.make_written.Statement.{statement}
 use Rattle.start_state.proofs.make_written.Tie as tie
@@ -10,7 +11,7 @@ use Rattle.tables.proofs.program_slots.Reads as program-slots-reads
 
 -- src/lib.rt:11:9
 claim-requires : tie.Need-claim-requires
-claim-requires c κs = search needs
+claim-requires c κs = search none-below
 
 -- src/lib.rt:12:9
 program-slots-requires : tie.Need-program-slots-requires
@@ -18,7 +19,7 @@ program-slots-requires c κs = search needs
 
 -- src/lib.rt:13:5
 fill-requires : tie.Need-fill-requires
-fill-requires c κs = search written-can-fill
+fill-requires c κs = (search written-can-fill, search none-below)
 
 -- src/lib.rt:7:1
 same-length : tie.Need-same-length

@@ -1,4 +1,5 @@
 use Rattle.start_state.proofs.Laws.{self-done}
+use Rattle.allocation.proofs.Laws.{none-below}
 use borrow.Author.Needs.{needs}
 use Rattle.start_state.proofs.new_self.Statement.{statement}
 use Rattle.start_state.proofs.new_self.Tie as tie
@@ -9,7 +10,7 @@ use Rattle.heap.proofs.set_self.Reads as set-self-reads
 
 -- src/lib.rt:21:9
 claim-requires : tie.Need-claim-requires
-claim-requires c κs = search needs
+claim-requires c κs = search none-below
 
 -- src/lib.rt:22:5
 set-self-requires : tie.Need-set-self-requires

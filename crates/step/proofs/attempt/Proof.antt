@@ -1,100 +1,95 @@
-use Rattle.step.proofs.Laws.{words-fit, attempt-ended, attempt-shows, attempt-commits, attempt-no-space, attempt-made}
+use Rattle.step.proofs.Laws.{words-fit}
+use Rattle.step.proofs.Direct.{can-do, direct-made, direct-ended, made-knows-still, ended-knows-still, other-knows, other-can, other-attempts}
 use borrow.Author.Needs.{needs}
 use Rattle.step.proofs.attempt.Statement.{statement}
 use Rattle.step.proofs.attempt.Tie as tie
 use Rattle.step.proofs.attempt.Reads as reads
 use Rattle.step.proofs.attempt.Lts as lts
-use Rattle.commit.proofs.commit.Reads as commit-reads
+use Rattle.direct.proofs.direct.Reads as direct-reads
 use Rattle.heap.proofs.set_end_mark.Reads as set-end-mark-reads
-use Rattle.step.proofs.show.Reads as show-reads
-use Rattle.step.proofs.step_end.Reads as step-end-reads
+use Rattle.step.proofs.in_parts.Reads as in-parts-reads
 
--- src/lib.rt:83:9
-step-end-requires : tie.Need-step-end-requires
-step-end-requires c κs = search needs
+-- src/lib.rt:150:11
+direct-requires : tie.Need-direct-requires
+direct-requires c κs = search can-do
 
--- src/lib.rt:85:9
-set-end-mark-requires : tie.Need-set-end-mark-requires
-set-end-mark-requires c κs = search needs
-
--- src/lib.rt:86:9
-same-length : tie.Need-same-length
-same-length c = search needs
-
--- src/lib.rt:86:9
-same-length-2 : tie.Need-same-length-2
-same-length-2 c = search needs
-
--- src/lib.rt:86:9
-returns : tie.Need-returns
-returns c = search (attempt-ended, words-fit {h = c .before .before .set-end-mark .last .0} (c .slice-known5 .given))
-
--- src/lib.rt:88:29
-show-requires : tie.Need-show-requires
-show-requires c κs = search (attempt-shows, c .before .before .before .before .before .before .step-end .ensures, c .before .before .before .before .before .before .before .before .before .before .before .before .before .before .pre .step, c .before .before .before .before .before .before .before .before .before .before .before .before .before .before .pre .inside)
-
--- src/lib.rt:88:24
-enum-known-n : tie.Need-enum-known-n
-enum-known-n c = search needs
-
--- src/lib.rt:89:9
+-- src/lib.rt:152:22
 enum-told : tie.Need-enum-told
 enum-told c = search needs
 
--- src/lib.rt:89:9
+-- src/lib.rt:155:21
+enum-known-end : tie.Need-enum-known-end
+enum-known-end c = search needs
+
+-- src/lib.rt:156:13
+set-end-mark-requires : tie.Need-set-end-mark-requires
+set-end-mark-requires c κs = search needs
+
+-- src/lib.rt:162:39
+enum-told-2 : tie.Need-enum-told-2
+enum-told-2 c = search needs
+
+-- src/lib.rt:162:24
+in-parts-requires : tie.Need-in-parts-requires
+in-parts-requires c κs = (search (other-can, c .before .before .before .before .before .before .before .direct .ensures, c .before .before .before .before .before .before .before .before .before .before .before .before .before .before .before .pre .0, c .before .before .before .enum-told2 .given), search (other-knows, c .before .before .before .before .before .before .before .before .before .before .before .before .before .before .before .pre .0, c .before .before .before .before .before .before .before .direct .ensures, c .before .before .before .before .before .before .before .before .before .before .before .before .before .before .before .pre .1, c .before .before .before .enum-told2 .given))
+
+-- src/lib.rt:135:1
+same-length : tie.Need-same-length
+same-length c = search needs
+
+-- src/lib.rt:135:1
+same-length-2 : tie.Need-same-length-2
+same-length-2 c = search needs
+
+-- src/lib.rt:135:1
+returns : tie.Need-returns
+returns c = (search (direct-made, words-fit {h = c .before .before .before .before .direct .last .1 .1 .0} (c .before .before .slice-known4 .given)), search (made-knows-still, c .before .before .before .before .before .before .before .before .before .before .before .before .pre .0, c .before .before .before .before .direct .ensures, c .before .before .before .before .before .before .before .before .before .before .before .before .pre .1, c .enum-told .given))
+
+-- src/lib.rt:135:1
 same-length-3 : tie.Need-same-length-3
 same-length-3 c = search needs
 
--- src/lib.rt:89:9
+-- src/lib.rt:135:1
 same-length-4 : tie.Need-same-length-4
 same-length-4 c = search needs
 
--- src/lib.rt:89:9
+-- src/lib.rt:135:1
+returns-2 : tie.Need-returns-2
+returns-2 c = (search (direct-ended, words-fit {h = c .before .before .set-end-mark .last .0} (c .slice-known5 .given)), search (ended-knows-still, c .before .before .before .before .before .before .before .before .before .before .before .before .before .before .before .before .before .pre .0, c .before .before .before .before .before .before .before .before .before .direct .ensures, c .before .before .before .before .before .before .before .before .before .before .before .before .before .before .before .before .before .pre .1, c .before .before .before .before .before .end .given .1, c .before .before .set-end-mark .ensures))
+
+-- src/lib.rt:135:1
 same-length-5 : tie.Need-same-length-5
 same-length-5 c = search needs
 
--- src/lib.rt:89:9
-returns-2 : tie.Need-returns-2
-returns-2 c = search (attempt-no-space, words-fit {h = c .before .before .before .before .before .before .before .before .before .before .before .step-end .last .1 .1 .0} (c .before .before .before .before .before .before .before .before .before .slice-known4 .given))
-
--- src/lib.rt:91:5
-commit-requires : tie.Need-commit-requires
-commit-requires c κs = search (attempt-commits, c .before .before .before .before .before .before .before .before .before .before .before .before .before .before .step-end .ensures, c .before .before .before .before .before .before .before .before .before .before .before .before .before .before .before .before .before .before .before .before .before .before .pre .step, c .before .before .before .before .before .before .before .before .before .before .before .if1 .left)
-
--- src/lib.rt:71:1
+-- src/lib.rt:135:1
 same-length-6 : tie.Need-same-length-6
 same-length-6 c = search needs
 
--- src/lib.rt:71:1
+-- src/lib.rt:135:1
 same-length-7 : tie.Need-same-length-7
 same-length-7 c = search needs
 
--- src/lib.rt:71:1
-same-length-8 : tie.Need-same-length-8
-same-length-8 c = search needs
-
--- src/lib.rt:71:1
+-- src/lib.rt:135:1
 returns-3 : tie.Need-returns-3
-returns-3 c = search (attempt-made, words-fit {h = c .before .before .before .before .commit .last .1 .1 .0} (c .before .before .slice-known7 .given))
+returns-3 c = (search (other-attempts, c .before .before .before .before .before .before .before .before .before .before .before .before .before .before .before .before .before .before .before .before .before .before .pre .0, c .before .before .before .before .before .before .before .before .before .before .before .before .before .before .direct .ensures, c .before .before .before .before .before .before .before .before .before .before .enum-told2 .given, c .before .before .before .before .before .before .in-parts .ensures .0), c .before .before .before .before .before .before .in-parts .ensures .1)
 
 pub attempt-spec : {M : Type 1} → statement M
 attempt-spec =
     tie.close
     (tie.spec
-    step-end-requires
+    direct-requires
+    enum-told
+    enum-known-end
     set-end-mark-requires
+    enum-told-2
+    in-parts-requires
     same-length
     same-length-2
     returns
-    show-requires
-    enum-known-n
-    enum-told
     same-length-3
     same-length-4
-    same-length-5
     returns-2
-    commit-requires
+    same-length-5
     same-length-6
     same-length-7
-    same-length-8
     returns-3)

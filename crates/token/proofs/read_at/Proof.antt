@@ -1,18 +1,16 @@
-use Rattle.framed.specs.Common.{Common}
-use Rattle.framed.specs.Bytes.{Bytes}
 use Rattle.token.proofs.Laws.{name-begins, digit-begins, read-a-name, read-a-natural, read-a-string, read-a-mark, minus-begins, read-a-negative, read-a-minus, zero-class}
 use borrow.Author.Needs.{needs}
 use Rattle.token.proofs.read_at.Statement.{statement}
 use Rattle.token.proofs.read_at.Tie as tie
 
 name-at-requires : tie.Need-name-at-requires
-name-at-requires c κs = search name-begins
+name-at-requires c κs = record { table = search needs; run = search name-begins }
 
 returns : tie.Need-returns
 returns c = search read-a-name
 
 natural-at-requires : tie.Need-natural-at-requires
-natural-at-requires c κs = search digit-begins
+natural-at-requires c κs = record { table = search needs; run = search digit-begins }
 
 returns-2 : tie.Need-returns-2
 returns-2 c = search read-a-natural
@@ -24,8 +22,10 @@ returns-4 : tie.Need-returns-4
 returns-4 c = search read-a-mark
 
 negative-at-requires : tie.Need-negative-at-requires
-unfolding Common Bytes
-negative-at-requires c κs = search minus-begins
+negative-at-requires c κs = record {
+  table = search needs;
+  run = minus-begins _ _ _ _ _ (c .before .before .byte-at2 .ensures) (c .before .class-in2 .ensures) (c .if5 .taken) zero-class;
+}
 
 returns-5 : tie.Need-returns-5
 returns-5 c = search (read-a-negative, zero-class)

@@ -1,0 +1,236 @@
+-- One law for each way through the functions that give a value, put and jump. Assumes nothing.
+use Prim.Native.Nat.{ℕ, _≤_, _<_}
+use mathlib.Core.Path.{_≡_, refl, _∙_, sym}
+use mathlib.Core.Bool.{Bool, true, false}
+use mathlib.Core.List.{List, [], _∷_}
+use native.Mathlib.Omega.{arith}
+use lib.IntN.{ℤ, pos}
+use lib.ListN.{getElem?}
+use mir.Syntax.{w32}
+use mir.Val.{toZ, ofZ}
+use types.Run.{OneOf, hit}
+use denote.Enum.Declared.{tagOf}
+use borrow.Author.Tests.{eq-eqb, ne-eqb}
+use Rattle.framed.proofs.Value.{the-type}
+use Rattle.framed.specs.declared.Value.{Value}
+use Rattle.framed.specs.declared.Text.{Text}
+use Rattle.framed.specs.Values.{truth, bit}
+use Rattle.framed.specs.Fetch.{fetch}
+use Rattle.framed.specs.Machine as M
+use Rattle.framed.specs.Machine.{defined}
+use Rattle.ints.specs.Ints.{int-of}
+use Rattle.tables.specs.declared.ExpressionEntry.{ExpressionEntry}
+use Rattle.tables.specs.Entries.{expression-at}
+use Rattle.heap.specs.Words.{self-held, program-held, frame-used, slot-count-at, set-self, set-position, set-slot-value, add-slot}
+use Rattle.heap.specs.Held.{slots-held, frames-held, texts-held}
+use Rattle.paths.specs.declared.SlotFound.{SlotFound}
+use Rattle.paths.proofs.SlotFound.{the-type as slot-type}
+use Rattle.paths.specs.declared.Fetched.{Fetched}
+use Rattle.paths.specs.Paths.{slot-from, fetched, path-held}
+use Rattle.puts.specs.declared.PutTarget.{PutTarget}
+use Rattle.puts.specs.Puts.{targeted, target-along, put-slot}
+use Rattle.puts.proofs.Laws.{end-past, end-free, end-found, end-room, end-full, put-end-none, put-end-at, put-adds, put-sets}
+use Rattle.texts.specs.Literals.{literals-held}
+use Rattle.bounded.specs.Operations.{operated}
+use Rattle.bounded.specs.Check.{slot-end}
+use Rattle.operands.specs.Operands.{operand-value}
+use Rattle.operands.proofs.Laws.{operand-integer, operand-literal, operand-code, operand-self, operand-program}
+use Rattle.operators.specs.declared.Operated.{Operated}
+use Rattle.operators.specs.Operators as operators
+use Rattle.operators.specs.Operators.{operator-of}
+use Rattle.operand_checks.specs.OperandChecks.{jump-end}
+use Rattle.operand_checks.proofs.Laws as ends-laws
+use Rattle.producing.specs.Producing.{operation-held}
+use Rattle.evaluation.proofs.Stores.{full-frame}
+use Rattle.commit.specs.Commit.{put-along, first-place, CanJump, Jumps}
+use Rattle.commit.proofs.Laws.{put-somewhere, jump-none, jump-no-code, jump-second, jump-both}
+use Rattle.direct.specs.declared.Given.{Given}
+use Rattle.direct.specs.declared.Done.{Done}
+use Rattle.direct.specs.Direct.{of-base, of-not, of-product, operation-given, entry-given, expression-given, PutsSlot, Puts, PutsFrom, of-end, JumpsOnce}
+
+-- ---- from_fetched, negation
+
+pub fetched-none : (f : Fetched) → f ≡ Fetched.Undefined → Given.Ended 31 ≡ of-base (defined (fetched f))
+unfolding of-base defined
+fetched-none f e = rw e
+
+pub fetched-some : (f : Fetched) (v : Value) → f ≡ Fetched.Found v → Given.Value v ≡ of-base (defined (fetched f))
+unfolding of-base defined
+fetched-some f v e = rw e
+
+module _ (p h : List ℕ) (a : ℕ) (r : Fetched) (er : defined (fetched r) ≡ operand-value p h a) where
+  pub not-none : r ≡ Fetched.Undefined → Given.Ended 31 ≡ of-not (operand-value p h a)
+  unfolding of-not defined
+  not-none e = rw (← er, e)
+
+  module _ (v : Value) (ev : r ≡ Fetched.Found v) (b : Bool) (eb : b ≡ truth v) where
+    pub not-true : b ≡ true → Given.Value (Value.Int (pos 0)) ≡ of-not (operand-value p h a)
+    unfolding of-not defined bit
+    not-true q = rw (← er, ev, ← eb, q)
+
+    pub not-false : b ≡ false → Given.Value (Value.Int (pos 1)) ≡ of-not (operand-value p h a)
+    unfolding of-not defined bit
+    not-false q = rw (← er, ev, ← eb, q)
+
+-- ---- operation
+
+module _ (p l h t : List ℕ) (k a b : ℕ) where
+  pub operation-makes : k ≡ 12 → Given.Makes ≡ operation-given p l h t k a b
+  unfolding operation-given
+  operation-makes e = rw (eq-eqb k 12 e)
+
+  module _ (ne : k ≡ 12 → ⊥) (r : Fetched) (er : defined (fetched r) ≡ operand-value p h a) where
+    pub operation-first : r ≡ Fetched.Undefined → Given.Ended 31 ≡ operation-given p l h t k a b
+    unfolding operation-given operation-held of-product defined M._>>=_
+    operation-first e = rw (ne-eqb k 12 ne, ← er, e)
+
+    module _ (v : Value) (ev : r ≡ Fetched.Found v) (q : Fetched) (eq : defined (fetched q) ≡ operand-value p h b) where
+      pub operation-second : q ≡ Fetched.Undefined → Given.Ended 31 ≡ operation-given p l h t k a b
+      unfolding operation-given operation-held of-product defined M._>>=_
+      operation-second e = rw (ne-eqb k 12 ne, ← er, ev, ← eq, e)
+
+      module _ (w : Value) (ew : q ≡ Fetched.Found w) (o : Operated) (eo : operators.Operates p l h t k v w o) where
+        both : operation-given p l h t k a b ≡ of-product (operated (literals-held p l) (texts-held h t) (operator-of k) v w)
+        unfolding operation-given operation-held defined M._>>=_
+        both = rw (ne-eqb k 12 ne, ← er, ev, ← eq, ew)
+
+        pub operation-integer : (z y : ℤ) → o ≡ Operated.Integer z → y ≡ z → Given.Value (Value.Int y) ≡ operation-given p l h t k a b
+        unfolding of-product
+        operation-integer z y is ey = rw (both, ← (eo .is), is, ey)
+
+        pub operation-joined : o ≡ Operated.Joined → Given.Makes ≡ operation-given p l h t k a b
+        unfolding of-product
+        operation-joined is = rw (both, ← (eo .is), is)
+
+        pub operation-ended : (e : ℕ) → o ≡ Operated.Ended e → Given.Ended e ≡ operation-given p l h t k a b
+        unfolding of-product
+        operation-ended e is = rw (both, ← (eo .is), is)
+
+-- ---- expression
+
+module _ (p l h t : List ℕ) (x : ℕ) (e : ExpressionEntry) (at : e ≡ expression-at p x) where
+  pub given-integer : (w : ℕ) (z : ℤ) → e ≡ ExpressionEntry.Integer w → z ≡ int-of w → Given.Value (Value.Int (toZ w32 (ofZ w32 z))) ≡ expression-given p l h t x
+  unfolding expression-given entry-given of-base defined
+  given-integer w z is ez = rw (← at, is, ← (operand-integer p h x e at w z is ez))
+
+  pub given-literal : (k : ℕ) → e ≡ ExpressionEntry.Literal k → Given.Value (Value.Text (Text.Literal k)) ≡ expression-given p l h t x
+  unfolding expression-given entry-given of-base defined
+  given-literal k is = rw (← at, is, ← (operand-literal p h x e at k is))
+
+  pub given-code : (k : ℕ) → e ≡ ExpressionEntry.Code k → Given.Value (Value.Code k) ≡ expression-given p l h t x
+  unfolding expression-given entry-given of-base defined
+  given-code k is = rw (← at, is, ← (operand-code p h x e at k is))
+
+  pub given-self : (j n : ℕ) (v : Value) (f : Fetched) (r : Given) → e ≡ ExpressionEntry.FromSelf j n → v ≡ self-held h
+      → fetched f ≡ fetch (frames-held h) v (path-held p j n) → r ≡ of-base (defined (fetched f)) → r ≡ expression-given p l h t x
+  unfolding expression-given entry-given
+  given-self j n v f r is ev ef er = rw (← at, is, ← (operand-self p h x e at j n f is (rw ev at ef))) er
+
+  pub given-program : (j n : ℕ) (v : Value) (f : Fetched) (r : Given) → e ≡ ExpressionEntry.FromProgram j n → v ≡ program-held h
+      → fetched f ≡ fetch (frames-held h) v (path-held p j n) → r ≡ of-base (defined (fetched f)) → r ≡ expression-given p l h t x
+  unfolding expression-given entry-given
+  given-program j n v f r is ev ef er = rw (← at, is, ← (operand-program p h x e at j n f is (rw ev at ef))) er
+
+  pub given-frame : (d : ℕ) → e ≡ ExpressionEntry.Frame d → Given.Makes ≡ expression-given p l h t x
+  unfolding expression-given entry-given
+  given-frame d is = rw (← at, is)
+
+  pub given-not : (a : ℕ) (r : Given) → e ≡ ExpressionEntry.Not a → r ≡ of-not (operand-value p h a) → r ≡ expression-given p l h t x
+  unfolding expression-given entry-given
+  given-not a r is er = rw (← at, is) er
+
+  pub given-operation : (k a b : ℕ) (r : Given) → e ≡ ExpressionEntry.Operate k a b → r ≡ operation-given p l h t k a b → r ≡ expression-given p l h t x
+  unfolding expression-given entry-given
+  given-operation k a b r is er = rw (← at, is) er
+
+  pub given-bad : e ≡ ExpressionEntry.Bad → Given.Makes ≡ expression-given p l h t x
+  unfolding expression-given entry-given
+  given-bad is = rw (← at, is)
+
+-- ---- put_slot
+
+module _ (h : List ℕ) (f x : ℕ) (v : Value) (lt : f < 256) (r : SlotFound) (er : r ≡ slot-from (slots-held h f) x 0) where
+  pub slot-set : (i : ℕ) (h′ : List ℕ) → r ≡ SlotFound.At i → h′ ≡ set-slot-value h f i v → PutsSlot h f x v 0 h′
+  slot-set i h′ is eh = record { end = go (frame-used h f) refl; words = put-sets h f x v r er h′ i is eh }
+    where
+      here : OneOf (0 ∷ []) (tagOf slot-type r)
+      here = rw is (hit (0 ∷ []) 0 tt)
+
+      go : (b : Bool) → b ≡ frame-used h f → 0 ≡ slot-end (getElem? (frames-held h) f) x
+      go true e = end-found h f x lt true e refl r er here
+      go false e = end-free h f x lt false e refl
+
+  module _ (is : r ≡ SlotFound.Missing) (n : ℕ) (en : n ≡ slot-count-at h f) where
+    pub slot-added : n < 16 → (h′ : List ℕ) → h′ ≡ add-slot h f x v → PutsSlot h f x v 0 h′
+    slot-added few h′ eh = record { end = go (frame-used h f) refl; words = put-adds h f x v r er h′ is eh }
+      where
+        go : (b : Bool) → b ≡ frame-used h f → 0 ≡ slot-end (getElem? (frames-held h) f) x
+        go true e = end-room h f x lt true e refl r er is n en few
+        go false e = end-free h f x lt false e refl
+
+    module _ (full : 16 ≤ n) (b : Bool) (eb : b ≡ frame-used h f) where
+      pub slot-full : b ≡ true → PutsSlot h f x v 35 h
+      slot-full u = record { end = end-full h f x lt b eb (rw u) r er is n en full; words = refl }
+
+      pub slot-free : b ≡ false → PutsSlot h f x v 0 h
+      slot-free u = record {
+        end = end-free h f x lt b eb (rw u);
+        words = sym (full-frame h f x v (rw en at full)) ∙ put-adds h f x v r er (add-slot h f x v) is refl;
+      }
+
+-- ---- put
+
+module _ (p h : List ℕ) (root : Value) (j n : ℕ) (v : Value) (r : PutTarget) (er : targeted r ≡ target-along (frames-held h) root (path-held p j n)) where
+  pub put-nowhere : r ≡ PutTarget.NoRule → Puts p h root j n v 31 h
+  put-nowhere is = record { end = put-end-none (frames-held h) _ r er is; words = refl }
+
+  module _ (f x : ℕ) (is : r ≡ PutTarget.At f x) where
+    pub put-past : 256 ≤ f → Puts p h root j n v 31 h
+    put-past le = record { end = put-end-at (frames-held h) _ r er f x 31 is (end-past h f x le); words = refl }
+
+    pub put-there : (e : ℕ) (h′ : List ℕ) → PutsSlot h f x v e h′ → Puts p h root j n v e h′
+    put-there e h′ k = record {
+      end = put-end-at (frames-held h) _ r er f x e is (k .end);
+      words = rw (← (put-somewhere p h root j n v r er f x (put-slot h f x v) is refl)) (k .words);
+    }
+
+-- ---- put_from_self, put_from_program
+
+module _ (p h h₀ : List ℕ) (root : Value) (j n : ℕ) (v : Value) where
+  pub from-empty : n ≡ 0 → (h′ : List ℕ) → h′ ≡ h₀ → PutsFrom p h h₀ root j n v 0 h′
+  from-empty e h′ eh = record { end = ends-laws.put-empty p h root j n e; words = rw (eq-eqb n 0 e) eh }
+
+  pub from-root : (n ≡ 0 → ⊥) → (u : Value) (r : ℕ) (h′ : List ℕ) → u ≡ root → Puts p h u j n v r h′ → PutsFrom p h h₀ root j n v r h′
+  from-root ne u r h′ eu k = record {
+    end = ends-laws.put-along p h root j n r ne (rw eu at (k .end));
+    words = rw (ne-eqb n 0 ne, ← eu) (k .words);
+  }
+
+-- ---- jump
+
+module _ (p l h : List ℕ) (a c : ℕ) (can : CanJump p l h a c) (r : Fetched) (er : defined (fetched r) ≡ operand-value p h a) where
+  ended : 31 ≡ jump-end p h a c → Jumps p l h a c h → JumpsOnce p l h a c (Done.Ended 31) h
+  unfolding of-end
+  ended e k = record { answer = rw (← e); jumps = k; kept = λ n q. refl }
+
+  pub jump-nothing : r ≡ Fetched.Undefined → JumpsOnce p l h a c (Done.Ended 31) h
+  jump-nothing e = ended (ends-laws.jump-undefined p h a c r er e) (jump-none p l h a c can r er e)
+
+  module _ (v : Value) (ev : r ≡ Fetched.Found v) where
+    pub jump-other : OneOf (0 ∷ 1 ∷ 3 ∷ []) (tagOf the-type v) → JumpsOnce p l h a c (Done.Ended 31) h
+    jump-other o = ended (ends-laws.jump-other p h a c r er v ev o) (jump-no-code p l h a c can r er v ev o)
+
+    module _ (k : ℕ) (ek : v ≡ Value.Code k) (q : Fetched) (eq : defined (fetched q) ≡ operand-value p h c) where
+      pub jump-no-self : q ≡ Fetched.Undefined → JumpsOnce p l h a c (Done.Ended 31) h
+      jump-no-self e =
+          ended (ends-laws.jump-code p h a c r er v ev k 31 ek (ends-laws.operand-undefined p h c q eq e))
+          (jump-second p l h a c can r er v ev k ek q eq e)
+
+      pub jump-made : (w : Value) (h₁ h₂ : List ℕ) (z : ℕ) → q ≡ Fetched.Found w → h₁ ≡ set-self h w → h₂ ≡ set-position h₁ z → z ≡ first-place p k
+          → JumpsOnce p l h a c Done.Made h₂
+      unfolding of-end
+      jump-made w h₁ h₂ z ew e₁ e₂ ez = record {
+        answer = rw (← (ends-laws.jump-code p h a c r er v ev k 0 ek (ends-laws.operand-found p h c q eq w ew)));
+        jumps = jump-both p l h a c can r er v ev k ek q eq w ew h₁ h₂ z e₁ e₂ ez;
+        kept = λ n s. absurd (let y : _≡_ {A = ℕ} 0 1 = cc in omega arith);
+      }

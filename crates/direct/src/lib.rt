@@ -1,0 +1,257 @@
+// An instruction that makes no frame and no text, in one go: each operand is read once and each path walked once, and an end that is met leaves the words as they are.
+use framed::Text;
+use framed::Value;
+use operators::Operated;
+use paths::Fetched;
+use paths::SlotFound;
+use puts::PutTarget;
+use tables::ExpressionEntry;
+use tables::InstructionEntry;
+ghost use mathlib.Core.Path.{_≡_};
+ghost use Prim.Native.Nat.{_<_};
+ghost use Rattle.framed.specs.Machine.{defined};
+ghost use Rattle.tables.specs.declared.InstructionEntry.{InstructionEntry};
+ghost use Rattle.heap.specs.Words.{self-held, program-held, set-self, set-program};
+ghost use Rattle.paths.specs.Paths.{fetched};
+ghost use Rattle.texts.specs.Texts.{Readable};
+ghost use Rattle.operands.specs.Operands.{operand-value};
+ghost use Rattle.commit.specs.Commit.{CanJump};
+ghost use Rattle.direct.specs.Direct.{of-base, of-not, operation-given, expression-given, PutsSlot, Puts, PutsFrom, JumpsOnce, CanDo, CanDoEntry, Does};
+
+// What became of an instruction: made, the end that it meets, or not looked at, as it makes something or shows.
+pub enum Done {
+    Made,
+    Ended(u32),
+    Other,
+}
+
+// The value of an expression that makes nothing, the end that it meets, or that it makes something.
+pub enum Given {
+    Value(Value),
+    Ended(u32),
+    Makes,
+}
+
+// 31 where the value is undefined.
+fn from_fetched(f: Fetched) -> Given
+    ensures { λ r. ⌜ r ≡ of-base (defined (fetched f)) ⌝ }
+{
+    let Fetched::Found(v) = f else {
+        return Given::Ended(31);
+    };
+    Given::Value(v)
+}
+
+// `!` of a base.
+fn negation(p: &[u32], h: &[u32], a: u32) -> Given
+    ensures { λ r. ⌜ r ≡ of-not (operand-value (now (p .entry)) (now (h .entry)) a) ⌝ }
+{
+    let Fetched::Found(v) = operands::operand(p, h, a) else {
+        return Given::Ended(31);
+    };
+    if texts::truth(v) {
+        return Given::Value(Value::Int(0));
+    }
+    Given::Value(Value::Int(1))
+}
+
+// The operator of the kind between two bases; `#` makes a text.
+fn operation<'a>(p: &[u32], l: &'a [u8], h: &[u32], t: &'a [u8], kind: u32, a: u32, b: u32) -> Given
+    requires { ⌜ Readable (now p) (now l) (now h) (now t) ⌝ }
+    ensures { λ r. ⌜ r ≡ operation-given (now (p .entry)) (now (l .entry)) (now (h .entry)) (now (t .entry)) kind a b ⌝ }
+{
+    if kind == 12 {
+        return Given::Makes;
+    }
+    let Fetched::Found(v) = operands::operand(p, h, a) else {
+        return Given::Ended(31);
+    };
+    let Fetched::Found(w) = operands::operand(p, h, b) else {
+        return Given::Ended(31);
+    };
+    match operators::operate(p, l, h, t, kind, v, w) {
+        Operated::Integer(n) => Given::Value(Value::Int(n)),
+        Operated::Joined => Given::Makes,
+        Operated::Ended(e) => Given::Ended(e),
+    }
+}
+
+// The value of expression x.
+fn expression<'a>(p: &[u32], l: &'a [u8], h: &[u32], t: &'a [u8], x: u32) -> Given
+    requires { ⌜ Readable (now p) (now l) (now h) (now t) ⌝ }
+    ensures { λ r. ⌜ r ≡ expression-given (now (p .entry)) (now (l .entry)) (now (h .entry)) (now (t .entry)) x ⌝ }
+{
+    let e = tables::expression_at(p, x);
+    match e {
+        ExpressionEntry::Integer(w) => Given::Value(Value::Int(ints::int_of(w))),
+        ExpressionEntry::Literal(k) => Given::Value(Value::Text(Text::Literal(k))),
+        ExpressionEntry::FromSelf(j, n) => {
+            from_fetched(paths::fetch(p, h, heap::self_value(h), j, n))
+        }
+        ExpressionEntry::FromProgram(j, n) => {
+            from_fetched(paths::fetch(p, h, heap::program_value(h), j, n))
+        }
+        ExpressionEntry::Code(k) => Given::Value(Value::Code(k)),
+        ExpressionEntry::Frame(_) => Given::Makes,
+        ExpressionEntry::Not(a) => negation(p, h, a),
+        ExpressionEntry::Operate(o, a, b) => operation(p, l, h, t, o, a, b),
+        ExpressionEntry::Bad => Given::Makes,
+    }
+}
+
+// The slot of frame f is set, or added behind the others: 0, or 35 where it would be a 17th.
+fn put_slot(h: &mut [u32], f: u32, name: u32, v: Value) -> u32
+    requires { ⌜ f < 256 ⌝ }
+    ensures { λ r. ⌜ PutsSlot (now (h .entry)) f name v r (now (h .exit)) ⌝ }
+{
+    let SlotFound::At(i) = paths::find_slot(h, f, name) else {
+        if heap::slot_count(h, f) < 16 {
+            heap::add_slot(h, f, name, v);
+            return 0;
+        }
+        if heap::frame_used(h, f) {
+            return 35;
+        }
+        return 0;
+    };
+    heap::set_slot_value(h, f, i, v);
+    0
+}
+
+// Put along the n path names from j on: 0, or the end that it meets.
+fn put(p: &[u32], h: &mut [u32], root: Value, j: u32, n: u32, v: Value) -> u32
+    ensures { λ r. ⌜ Puts (now (p .entry)) (now (h .entry)) root j n v r (now (h .exit)) ⌝ }
+{
+    let PutTarget::At(f, name) = puts::put_target(p, h, root, j, n) else {
+        return 31;
+    };
+    if 256 <= f {
+        return 31;
+    }
+    put_slot(h, f, name, v)
+}
+
+// Put from self; an empty path sets self.
+fn put_from_self(p: &[u32], h: &mut [u32], j: u32, n: u32, v: Value) -> u32
+    ensures { λ r. ⌜ PutsFrom (now (p .entry)) (now (h .entry)) (set-self (now (h .entry)) v) (self-held (now (h .entry))) j n v r (now (h .exit)) ⌝ }
+{
+    if n == 0 {
+        heap::set_self(h, v);
+        return 0;
+    }
+    put(p, h, heap::self_value(h), j, n, v)
+}
+
+// The same from the program.
+fn put_from_program(p: &[u32], h: &mut [u32], j: u32, n: u32, v: Value) -> u32
+    ensures { λ r. ⌜ PutsFrom (now (p .entry)) (now (h .entry)) (set-program (now (h .entry)) v) (program-held (now (h .entry))) j n v r (now (h .exit)) ⌝ }
+{
+    if n == 0 {
+        heap::set_program(h, v);
+        return 0;
+    }
+    put(p, h, heap::program_value(h), j, n, v)
+}
+
+fn assign_self<'a>(
+    p: &[u32],
+    l: &'a [u8],
+    h: &mut [u32],
+    t: &'a [u8],
+    i: u32,
+    j: u32,
+    n: u32,
+    x: u32,
+) -> Done
+    requires { ⌜ CanDoEntry (now p) (now l) (now h) (now t) i (InstructionEntry.AssignSelf j n x) ⌝ }
+    ensures { λ r. ⌜ Does (now (p .entry)) (now (l .entry)) (now (h .entry)) (now (t .entry)) i r (now (h .exit)) ⌝ }
+{
+    match expression(p, l, h, t, x) {
+        Given::Value(v) => {
+            let e = put_from_self(p, h, j, n, v);
+            if e != 0 {
+                return Done::Ended(e);
+            }
+            commit::go_on(p, h, i);
+            Done::Made
+        }
+        Given::Ended(e) => Done::Ended(e),
+        Given::Makes => Done::Other,
+    }
+}
+
+fn assign_program<'a>(
+    p: &[u32],
+    l: &'a [u8],
+    h: &mut [u32],
+    t: &'a [u8],
+    i: u32,
+    j: u32,
+    n: u32,
+    x: u32,
+) -> Done
+    requires { ⌜ CanDoEntry (now p) (now l) (now h) (now t) i (InstructionEntry.AssignProgram j n x) ⌝ }
+    ensures { λ r. ⌜ Does (now (p .entry)) (now (l .entry)) (now (h .entry)) (now (t .entry)) i r (now (h .exit)) ⌝ }
+{
+    match expression(p, l, h, t, x) {
+        Given::Value(v) => {
+            let e = put_from_program(p, h, j, n, v);
+            if e != 0 {
+                return Done::Ended(e);
+            }
+            commit::go_on(p, h, i);
+            Done::Made
+        }
+        Given::Ended(e) => Done::Ended(e),
+        Given::Makes => Done::Other,
+    }
+}
+
+// The first operand must be code, the second have a value: then the code replaces the rest, and self becomes the second.
+fn jump(p: &[u32], l: &[u8], h: &mut [u32], a: u32, c: u32) -> Done
+    requires { ⌜ CanJump (now p) (now l) (now h) a c ⌝ }
+    ensures { λ r. ⌜ JumpsOnce (now (p .entry)) (now (l .entry)) (now (h .entry)) a c r (now (h .exit)) ⌝ }
+{
+    let Fetched::Found(v) = operands::operand(p, h, a) else {
+        return Done::Ended(31);
+    };
+    let Value::Code(k) = v else {
+        return Done::Ended(31);
+    };
+    let Fetched::Found(w) = operands::operand(p, h, c) else {
+        return Done::Ended(31);
+    };
+    heap::set_self(h, w);
+    heap::set_position(h, commit::first_place(p, k));
+    Done::Made
+}
+
+// Integer 0 jumps; any other value goes on.
+fn branch(p: &[u32], l: &[u8], h: &mut [u32], t: &[u8], i: u32, a: u32, c: u32, d: u32) -> Done
+    requires { ⌜ CanDoEntry (now p) (now l) (now h) (now t) i (InstructionEntry.Ifeq a c d) ⌝ }
+    ensures { λ r. ⌜ Does (now (p .entry)) (now (l .entry)) (now (h .entry)) (now (t .entry)) i r (now (h .exit)) ⌝ }
+{
+    let Fetched::Found(v) = operands::operand(p, h, a) else {
+        return Done::Ended(31);
+    };
+    if texts::truth(v) {
+        commit::go_on(p, h, i);
+        return Done::Made;
+    }
+    jump(p, l, h, c, d)
+}
+
+// Instruction i, where it makes nothing and shows nothing.
+pub fn direct<'a>(p: &[u32], l: &'a [u8], h: &mut [u32], t: &'a [u8], i: u32) -> Done
+    requires { ⌜ CanDo (now p) (now l) (now h) (now t) i ⌝ }
+    ensures { λ r. ⌜ Does (now (p .entry)) (now (l .entry)) (now (h .entry)) (now (t .entry)) i r (now (h .exit)) ⌝ }
+{
+    match tables::instruction_at(p, i) {
+        InstructionEntry::AssignSelf(j, n, x) => assign_self(p, l, h, t, i, j, n, x),
+        InstructionEntry::AssignProgram(j, n, x) => assign_program(p, l, h, t, i, j, n, x),
+        InstructionEntry::Show(_) => Done::Other,
+        InstructionEntry::Jump(a, c) => jump(p, l, h, a, c),
+        InstructionEntry::Ifeq(a, c, d) => branch(p, l, h, t, i, a, c, d),
+        InstructionEntry::Bad => Done::Other,
+    }
+}
