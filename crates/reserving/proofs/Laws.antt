@@ -39,9 +39,6 @@ module _ (p : List ℕ) (f n : ℕ) (k : Known) (F₀ F a b : ℕ) (e₀ : F₀ 
 -- ---- seek
 
 module _ (h : List ℕ) (r : Reserved) where
-  pub seek-none : FullBelow h (r .known .low) → Sought h r r
-  seek-none a = record { end = refl; frames = refl; texts = refl; full = a }
-
   pub seek-lowest : (x : ℕ) → x ≡ next-frame h → Sought h r (record { end = r .end; known = record { frames = r .known .frames; texts = r .known .texts; low = x } })
   seek-lowest x e = record { end = refl; frames = refl; texts = refl; full = rw e (next-full h) }
 

@@ -26,7 +26,7 @@ use Rattle.splice.proofs.Laws.{splice-length}
 use Rattle.wellformed.specs.WellFormed.{limits, WellFormed, well-formed}
 use Rattle.wellformed.proofs.Decides.{well-formed-decides}
 use Rattle.step.specs.declared.Outcome.{Outcome}
-use Rattle.step.specs.Step.{Formed, CanStep, CanAttempt, Attempted, Attempts, attempted, attempt-step}
+use Rattle.step.specs.Step.{Formed, CanAttempt, Attempted, Attempts}
 use Rattle.step_held.specs.StepHeld.{AttemptHeld, ends, lacks-space, makes}
 use Rattle.step_held.proofs.Attempt.{step-held}
 use Rattle.run.specs.Run.{stop-of, Finished, finished, more-steps, by-outcome, after-attempt, run-from, Running, running, run-call, RunMeans}

@@ -1,4 +1,4 @@
-use Rattle.reserving.proofs.Laws.{seek-none, seek-lowest}
+use Rattle.reserving.proofs.Laws.{seek-lowest}
 use borrow.Author.Needs.{needs}
 use Rattle.reserving.proofs.seek.Statement.{statement}
 use Rattle.reserving.proofs.seek.Tie as tie
