@@ -19,12 +19,13 @@ use Rattle.framed.specs.Meaning.{Lengths, right-lengths, pieces, misplaced, bad
 use Rattle.framed.specs.Answers.{load-number}
 use Rattle.framed.specs.declared.LoadAnswer.{LoadAnswer}
 use Rattle.scan.specs.Scan.{tokens-refusal}
+use Rattle.names.specs.Kept.{Kept}
 use Rattle.sweep.specs.Decides.{Short, Decides}
 use Rattle.grammar.specs.Runs.{OneFrame}
 use Rattle.slots.specs.Own.{bad-tree}
 use Rattle.start.specs.Find.{HasStart}
-use Rattle.limits.specs.Limits.{misplaced-tree, limit-tree, far-tree, frames-tree}
-use Rattle.check_source.specs.Numbers.{lengths, lengths-refusal, limits-refusal, Means, Numbered}
+use Rattle.limits.specs.Limits.{CountsNames, misplaced-tree, limit-tree, far-tree, frames-tree}
+use Rattle.check_source.specs.Numbers.{lengths, lengths-refusal, limits-refusal, Means, Numbered, KeptAt}
 
 -- ---- 1 to 3
 
@@ -205,6 +206,20 @@ module _ (s : List ℕ) (F n : ℕ) (e : n ≡ tokens-refusal (tokens class s)) 
     pub source-means : t ≡ true → (r : ℕ) → Means s F r → r ≡ source-refusal (tokens class s) F
     source-means q r m = late r (tokens class s) refl e (λ ts g. seven ts F r (parse (symbols ts)) refl (sym q ∙ h .is ts g) (λ ss f. m .is ts ss g f))
 
+-- ---- The names kept
+
+pub counts-names : (s b e : List ℕ) (n : ℕ) → Kept s b e n → CountsNames s n
+counts-names s b e n k = record { is = k .many }
+
+pub kept-not : (r : ℕ) (s b e : List ℕ) (n : ℕ) → (r ≡ 0 → ⊥) → KeptAt r s b e n
+kept-not r s b e n f = record { is = λ z. absurd (f z) }
+
+pub kept-six : (s b e : List ℕ) (n : ℕ) → KeptAt 6 s b e n
+kept-six s b e n = kept-not 6 s b e n (λ z. omega arith)
+
+pub kept-here : (r : ℕ) (s b e : List ℕ) (n m : ℕ) → Kept s b e m → n ≡ m → KeptAt r s b e n
+kept-here r s b e n m k q = record { is = λ z. rw q k }
+
 -- ---- All
 
 pub answer-last : (n : ℕ) → (n ≡ 0 → ⊥) → (n ≡ 1 → ⊥) → (n ≡ 2 → ⊥) → (n ≡ 3 → ⊥) → (n ≡ 4 → ⊥) → (n ≡ 5 → ⊥) → (n ≡ 6 → ⊥) → (n ≡ 7 → ⊥) → (n ≡ 8 → ⊥) → (n ≡ 9 → ⊥) → (n ≡ 10 → ⊥) → (n ≡ 11 → ⊥) → Numbered n LoadAnswer.WrittenFrames
@@ -303,3 +318,21 @@ module _ (m : Lengths) (s : List ℕ) (F T : ℕ) where
 
       pub check-all : b ≡ 0 → (n : ℕ) → n ≡ source-refusal (tokens class s) F → (r : LoadAnswer) → Numbered n r → load-number r ≡ refusal m s F T
       check-all y n e r h = h .is (rw e (source-small (tokens class s) F)) ∙ e ∙ sym (passed (arguments-are ∙ y))
+
+module _ (s b e : List ℕ) (c : ℕ) (n : ℕ) (r : LoadAnswer) (h : Numbered n r) where
+  kept-refused : n ≤ 12 → (n ≡ 0 → ⊥) → KeptAt (load-number r) s b e c
+  kept-refused l f = kept-not (load-number r) s b e c (λ z. f (sym (h .is l) ∙ z))
+
+  pub kept-lengths : (m : Lengths) → n ≡ lengths-refusal m → (n ≡ 0 → ⊥) → KeptAt (load-number r) s b e c
+  unfolding lengths-refusal
+  kept-lengths m q f = kept-refused (rw q (go (right-lengths m))) f
+    where
+      go : (t : Bool) → (if t then 0 else 1) ≤ 12
+      go true = omega arith
+      go false = omega arith
+
+  pub kept-limits : (F T : ℕ) → n ≡ limits-refusal (length s) F T → (n ≡ 0 → ⊥) → KeptAt (load-number r) s b e c
+  kept-limits F T q f = kept-refused (rw q (limits-small (length s) F T)) f
+
+  pub kept-all : (F : ℕ) → n ≡ source-refusal (tokens class s) F → KeptAt n s b e c → KeptAt (load-number r) s b e c
+  kept-all F q k = record { is = λ z. k .is (sym (h .is (rw q (source-small (tokens class s) F))) ∙ z) }

@@ -14,6 +14,7 @@ use Rattle.framed.specs.Parse.{parse}
 use Rattle.framed.specs.Meaning.{Lengths, right-lengths, meaning-refusal}
 use Rattle.framed.specs.Answers.{load-number}
 use Rattle.framed.specs.declared.LoadAnswer.{LoadAnswer}
+use Rattle.names.specs.Kept.{Kept}
 
 abbrev pub lengths : ℕ → ℕ → ℕ → ℕ → Lengths
 lengths program heap literal text = record { program = program; heap = heap; literal = literal; text = text }
@@ -33,3 +34,7 @@ pub record Means (s : List ℕ) (F r : ℕ) : Type 0 where
 -- an answer has the number, where there is such an answer
 pub record Numbered (n : ℕ) (r : LoadAnswer) : Type 0 where
   pub is : n ≤ 12 → load-number r ≡ n
+
+-- where no number refuses the source, its names are kept
+pub record KeptAt (number : ℕ) (s begins ends : List ℕ) (n : ℕ) : Type 0 where
+  pub is : number ≡ 0 → Kept s begins ends n

@@ -1,11 +1,14 @@
-// Which of the numbers 1 to 12 refuses a source. Nothing lent is written.
+// Which of the numbers 1 to 12 refuses a source. Nothing lent is written but the cache of its tokens and its names, kept for those who write the program.
 ghost use mathlib.Core.Path.{_≡_};
 ghost use Rattle.framed.specs.Bytes.{class};
 ghost use Rattle.framed.specs.Tokens.{tokens};
 ghost use Rattle.framed.specs.Meaning.{source-refusal, refusal};
 ghost use Rattle.framed.specs.Answers.{load-number};
 ghost use Rattle.sweep.specs.Decides.{Short};
-ghost use Rattle.check_source.specs.Numbers.{lengths, lengths-refusal, limits-refusal, Means, Numbered};
+ghost use Rattle.token_cache.specs.Cache.{Cached};
+ghost use Rattle.names.specs.Kept.{Sized};
+ghost use Rattle.limits.specs.Limits.{CountsNames};
+ghost use Rattle.check_source.specs.Numbers.{lengths, lengths-refusal, limits-refusal, Means, Numbered, KeptAt};
 use framed::LoadAnswer;
 
 // 1 where a memory has another length.
@@ -47,24 +50,26 @@ fn limits_refusal(length: usize, f: u32, t: u32) -> u32
 }
 
 // 7 to 12, else 0.
-fn meaning_refusal(s: &[u8], f: u32) -> u32
-    requires { ⌜ Short (now s) ⌝ }
+fn meaning_refusal(c: &[u64; 16384], s: &[u8], names: u32, f: u32) -> u32
+    requires short { ⌜ Short (now s) ⌝ }
+    requires cached { ⌜ Cached (now c) (now s) ⌝ }
+    requires counted { ⌜ CountsNames (now s) names ⌝ }
     ensures { λ r. ⌜ Means (now (s .entry)) f r ⌝ }
 {
-    let t = sums::sum_all(s);
+    let t = sums::sum_all(c, s);
     if limits::outside_code(s, t) {
         return 7;
     }
-    if slots::bad_frame(s) {
+    if slots::bad_frame(c, s) {
         return 8;
     }
-    if limits::above_limit(s, t) {
+    if limits::above_limit(s, t, names) {
         return 9;
     }
     if limits::far_up(s, t) {
         return 10;
     }
-    if start::has_start(s) {
+    if start::has_start(c, s) {
         if limits::many_frames(s, t, f) {
             return 12;
         }
@@ -73,17 +78,31 @@ fn meaning_refusal(s: &[u8], f: u32) -> u32
     11
 }
 
-// 4 to 12, else 0.
-fn source_refusal(s: &[u8], f: u32) -> u32
-    requires { ⌜ Short (now s) ⌝ }
-    ensures { λ r. ⌜ r ≡ source-refusal (tokens class (now (s .entry))) f ⌝ }
+// 4 to 12, else 0. The names are kept, with their number in `count`.
+fn source_refusal(
+    c: &mut [u64; 16384],
+    s: &[u8],
+    begins: &mut [usize],
+    ends: &mut [usize],
+    hints: &mut [u8; 1024],
+    count: &mut u32,
+    f: u32,
+) -> u32
+    requires short { ⌜ Short (now s) ⌝ }
+    requires cached { ⌜ Cached (now c) (now s) ⌝ }
+    requires sized { ⌜ Sized (now begins) (now ends) (now hints) ⌝ }
+    ensures number { λ r. ⌜ r ≡ source-refusal (tokens class (now (s .entry))) f ⌝ }
+    ensures cached { λ _. ⌜ Cached (now (c .exit)) (now (s .entry)) ⌝ }
+    ensures kept { λ r. ⌜ KeptAt r (now (s .entry)) (now (begins .exit)) (now (ends .exit)) (now (count .exit)) ⌝ }
 {
-    let n = scan::check_tokens(s);
+    let n = scan::check_tokens(c, s);
     if n != 0 {
         return n;
     }
-    if grammar::one_frame(s) {
-        return meaning_refusal(s, f);
+    if grammar::one_frame(c, s) {
+        let names = names::keep_names(c, s, begins, ends, hints);
+        *count = names;
+        return meaning_refusal(c, s, names, f);
     }
     6
 }
@@ -109,17 +128,26 @@ fn answer(n: u32) -> LoadAnswer
     }
 }
 
-// What load answers to these lengths of the four memories, source, F and T.
+// What load answers to these lengths of the four memories, source, F and T. The names of a source that loads are kept, with their number in `count`.
 pub fn check(
     program: usize,
     heap: usize,
     literal: usize,
     text: usize,
+    c: &mut [u64; 16384],
     s: &[u8],
+    begins: &mut [usize],
+    ends: &mut [usize],
+    hints: &mut [u8; 1024],
+    count: &mut u32,
     f: u32,
     t: u32,
 ) -> LoadAnswer
-    ensures { λ r. ⌜ load-number r ≡ refusal (lengths program heap literal text) (now (s .entry)) f t ⌝ }
+    requires cached { ⌜ Cached (now c) (now s) ⌝ }
+    requires sized { ⌜ Sized (now begins) (now ends) (now hints) ⌝ }
+    ensures number { λ r. ⌜ load-number r ≡ refusal (lengths program heap literal text) (now (s .entry)) f t ⌝ }
+    ensures cached { λ _. ⌜ Cached (now (c .exit)) (now (s .entry)) ⌝ }
+    ensures kept { λ r. ⌜ KeptAt (load-number r) (now (s .entry)) (now (begins .exit)) (now (ends .exit)) (now (count .exit)) ⌝ }
 {
     let a = lengths_refusal(program, heap, literal, text);
     if a != 0 {
@@ -129,6 +157,6 @@ pub fn check(
     if b != 0 {
         return answer(b);
     }
-    let n = source_refusal(s, f);
+    let n = source_refusal(c, s, begins, ends, hints, count, f);
     answer(n)
 }

@@ -1,6 +1,8 @@
 // The leaves of the tree and where its parts begin and end, written into program words: what the cycle of `emit_tree` calls.
 ghost use mathlib.Core.Path.{_≡_};
-ghost use Rattle.names.specs.Kept.{table-of};
+ghost use Rattle.names.specs.Kept.{table-of, Numbered};
+ghost use Rattle.token_cache.specs.Cache.{Cached};
+ghost use Rattle.emit_names.specs.Table.{Ready};
 ghost use Rattle.grammar.specs.Runs.{Sees};
 ghost use Rattle.emit_paths.specs.Emits.{Emits};
 ghost use Rattle.emit_leaves.specs.Parts.{place-by, line-link-by, slot-link-by, assign-by, EmitsAny, IntegerHere, StringHere, OperatorHere, integer-emitted, string-emitted, operator-emitted};
@@ -81,25 +83,26 @@ pub fn string(s: &[u8], p: &mut [u32], x: u32, n: Next, t: Seen) -> Next
 }
 
 // An operator as expression x, whose operands are a and the next expression.
-pub fn operator(s: &[u8], p: &mut [u32], x: u32, a: u32, n: Next) -> Next
+pub fn operator(c: &[u64; 16384], s: &[u8], p: &mut [u32], x: u32, a: u32, n: Next) -> Next
+    requires { ⌜ Cached (now c) (now s) ⌝ }
     ensures { λ r. ⌜ EmitsAny OperatorHere (operator-emitted x a) (now (s .entry)) n (now (p .entry)) (now (p .exit)) r ⌝ }
 {
-    let t = grammar::look(s, n.at);
+    let t = grammar::look(c, s, n.at);
     let j = emit_steps::less(t.kind, 9);
     table_updates::set_expression(p, x, ExpressionEntry::Operate(j, a, n.expressions));
     emit_steps::go_to(n, t.end)
 }
 
 // An operator follows the base that begins there with the token t.
-pub fn operator_after(s: &[u8], at: usize, t: Seen) -> bool
-    requires { ⌜ Sees (now s) at t ⌝ }
+pub fn operator_after(c: &[u64; 16384], s: &[u8], at: usize, t: Seen) -> bool
+    requires { ⌜ Cached (now c) (now s) × Sees (now s) at t ⌝ }
     ensures { λ r. ⌜ OperatorAfter (now (s .entry)) at r ⌝ }
 {
-    let x = grammar::base_from(s, at, t);
+    let x = grammar::base_from(c, s, at, t);
     let Found::Done(p) = x else {
         return false;
     };
-    let k = grammar::kind_at(s, p);
+    let k = grammar::kind_at(c, s, p);
     if k < 16 {
         return false;
     }
@@ -110,10 +113,11 @@ pub fn operator_after(s: &[u8], at: usize, t: Seen) -> bool
 }
 
 // A token of kind k is passed.
-pub fn skip(s: &[u8], n: Next, k: u32) -> Next
+pub fn skip(c: &[u64; 16384], s: &[u8], n: Next, k: u32) -> Next
+    requires { ⌜ Cached (now c) (now s) ⌝ }
     ensures { λ r. ⌜ Skipped (now (s .entry)) n k r ⌝ }
 {
-    let q = emit_steps::pass(s, n.at, k);
+    let q = emit_steps::pass(c, s, n.at, k);
     emit_steps::go_to(n, q)
 }
 
@@ -121,9 +125,11 @@ pub fn skip(s: &[u8], n: Next, k: u32) -> Next
 
 // Path and `:=` of instruction i; its first token is t.
 pub fn assign_target(
+    c: &[u64; 16384],
     s: &[u8],
     begins: &[usize],
     ends: &[usize],
+    hints: &[u8; 1024],
     count: u32,
     p: &mut [u32],
     place: Place,
@@ -131,25 +137,25 @@ pub fn assign_target(
     n: Next,
     t: Seen,
 ) -> Next
-    requires { ⌜ Sees (now s) (n .at) t ⌝ }
+    requires { ⌜ Ready (now c) (now s) (now begins) (now ends) count × Sees (now s) (n .at) t ⌝ }
     ensures { λ r. ⌜ Emits (TargetHere place) (target-emitted place i) (now (s .entry)) (table-of (now (s .entry)) (now (begins .entry)) (now (ends .entry)) count) n (now (p .entry)) (now (p .exit)) r ⌝ }
 {
-    let u = emit_paths::emit_path(s, begins, ends, count, p, place, n, t);
+    let u = emit_paths::emit_path(c, s, begins, ends, hints, count, p, place, n, t);
     let d = emit_steps::less(u.paths, n.paths);
     let e = assign_entry(t.kind, n.paths, d, u.expressions);
     table_updates::set_instruction(p, i, e);
-    skip(s, u, 6)
+    skip(c, s, u, 6)
 }
 
 // ---- Where a code or a frame begins
 
 // `code`, the token t, and `{` of expression x.
-pub fn open_block(s: &[u8], p: &mut [u32], x: u32, n: Next, t: Seen) -> Stand
-    requires { ⌜ Sees (now s) (n .at) t ⌝ }
+pub fn open_block(c: &[u64; 16384], s: &[u8], p: &mut [u32], x: u32, n: Next, t: Seen) -> Stand
+    requires { ⌜ Cached (now c) (now s) × Sees (now s) (n .at) t ⌝ }
     ensures { λ r. ⌜ Stands (now (s .entry)) (BlockOpened (now (s .entry)) x n (now (p .entry)) (now (p .exit))) r ⌝ }
 {
-    let q = emit_steps::pass(s, t.end, 14);
-    let u = grammar::look(s, q);
+    let q = emit_steps::pass(c, s, t.end, 14);
+    let u = grammar::look(c, s, q);
     let f = first_place(u.kind, n.instructions);
     table_updates::set_code_first(p, n.codes, f);
     table_updates::set_expression(p, x, ExpressionEntry::Code(n.codes));
@@ -158,15 +164,15 @@ pub fn open_block(s: &[u8], p: &mut [u32], x: u32, n: Next, t: Seen) -> Stand
 }
 
 // `frame`, the token t, and `:` `[` of expression x.
-pub fn open_frame(s: &[u8], p: &mut [u32], x: u32, n: Next, t: Seen) -> Stand
-    requires { ⌜ Sees (now s) (n .at) t ⌝ }
+pub fn open_frame(c: &[u64; 16384], s: &[u8], p: &mut [u32], x: u32, n: Next, t: Seen) -> Stand
+    requires { ⌜ Cached (now c) (now s) × Sees (now s) (n .at) t ⌝ }
     ensures { λ r. ⌜ Stands (now (s .entry)) (FrameOpened (now (s .entry)) x n (now (p .entry)) (now (p .exit))) r ⌝ }
 {
     if s.len() <= n.at {
         return Stand { next: n, seen: t };
     }
-    let q = emit_steps::pass_two(s, t.end, 5, 12);
-    let u = grammar::look(s, q);
+    let q = emit_steps::pass_two(c, s, t.end, 5, 12);
+    let u = grammar::look(c, s, q);
     let d = slot_link(u.kind, x, n.expressions);
     table_updates::set_expression(p, x, ExpressionEntry::Frame(d));
     let m = emit_steps::go_to(n, q);
@@ -180,36 +186,39 @@ pub fn name_slot(
     s: &[u8],
     begins: &[usize],
     ends: &[usize],
+    hints: &[u8; 1024],
     count: u32,
     p: &mut [u32],
     n: Next,
     t: Seen,
 ) -> u32
-    requires { ⌜ Sees (now s) (n .at) t ⌝ }
+    requires { ⌜ Numbered (now s) (now begins) (now ends) count × Sees (now s) (n .at) t ⌝ }
     ensures { λ r. ⌜ SlotNamed (now (s .entry)) (now (begins .entry)) (now (ends .entry)) count n (now (p .entry)) (now (p .exit)) r ⌝ }
 {
-    let k = emit_paths::name_number(s, begins, ends, count, t);
+    let k = emit_paths::name_number(s, begins, ends, hints, count, t);
     table_updates::set_slot_name(p, n.expressions, k);
     k
 }
 
 // The end of slot y, with its comma where there is one: its link.
-pub fn close_slot(s: &[u8], p: &mut [u32], y: u32, u: Next) -> Stand
+pub fn close_slot(c: &[u64; 16384], s: &[u8], p: &mut [u32], y: u32, u: Next) -> Stand
+    requires { ⌜ Cached (now c) (now s) ⌝ }
     ensures { λ r. ⌜ Stands (now (s .entry)) (SlotClosed (now (s .entry)) y u (now (p .entry)) (now (p .exit))) r ⌝ }
 {
-    let m = skip(s, u, 11);
-    let t = grammar::look(s, m.at);
+    let m = skip(c, s, u, 11);
+    let t = grammar::look(c, s, m.at);
     let d = slot_link(t.kind, y, u.expressions);
     table_updates::set_slot_link(p, y, d);
     Stand { next: m, seen: t }
 }
 
 // The end of instruction i, with its `;`: its link.
-pub fn close_line(s: &[u8], p: &mut [u32], i: u32, u: Next) -> Stand
+pub fn close_line(c: &[u64; 16384], s: &[u8], p: &mut [u32], i: u32, u: Next) -> Stand
+    requires { ⌜ Cached (now c) (now s) ⌝ }
     ensures { λ r. ⌜ Stands (now (s .entry)) (LineClosed (now (s .entry)) i u (now (p .entry)) (now (p .exit))) r ⌝ }
 {
-    let m = skip(s, u, 10);
-    let t = grammar::look(s, m.at);
+    let m = skip(c, s, u, 10);
+    let t = grammar::look(c, s, m.at);
     let d = line_link(t.kind, i, u.instructions);
     table_updates::set_instruction_link(p, i, d);
     Stand { next: m, seen: t }

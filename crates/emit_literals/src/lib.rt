@@ -1,6 +1,7 @@
 // The string literals of a source: their lengths into program words and their bytes into literal bytes.
 ghost use mathlib.Core.Path.{_≡_};
 ghost use Rattle.sweep.specs.Decides.{Short};
+ghost use Rattle.token_cache.specs.Cache.{Cached};
 ghost use Rattle.emission.specs.Emit.{write-literal-bytes};
 ghost use Rattle.emit_literals.specs.Literals.{Written, Counted, AllWritten};
 use token::TokenRead;
@@ -34,15 +35,14 @@ fn write_literal(s: &[u8], p: &mut [u32], l: &mut [u8], k: u32, j: u32, a: usize
 }
 
 // The literals of the source in order: how many there are.
-pub fn write_literals(s: &[u8], p: &mut [u32], l: &mut [u8]) -> u32
-    requires { ⌜ Short (now s) ⌝ }
+pub fn write_literals(c: &[u64; 16384], s: &[u8], p: &mut [u32], l: &mut [u8]) -> u32
+    requires { ⌜ Cached (now c) (now s) × Short (now s) ⌝ }
     ensures { λ r. ⌜ AllWritten (now (s .entry)) (now (p .entry)) (now (l .entry)) (now (p .exit)) (now (l .exit)) r ⌝ }
 {
-    let classes = source::classes();
     let mut k = 0;
     let mut at = 0;
     while at < s.len() {
-        let t = token::token_in(&classes, s, at);
+        let t = token_cache::token_in(c, s, at);
         let TokenRead::Token(j, a, q, _w) = t else {
             return k;
         };

@@ -7,6 +7,7 @@ use Prim.Native.Nat.{ℕ, zero, suc, _+_, _-_, _*_, _<_, _≤_}
 use native.Mathlib.Numerals.{add-one, unary-clauses}
 use native.Mathlib.Omega.{arith}
 use native.Mathlib.Nat.{min-le-right}
+use native.Mathlib.Decide.{decLt}
 use lib.Dec.{eqb, ltb}
 use lib.ListN.{length, length-append, drop, getD, take, drop-of-length-le, length-take, length-drop}
 use lib.Seq.{drop-cons, drop-length}
@@ -19,7 +20,7 @@ use Rattle.framed.specs.Tokens.{Token, tokens, token}
 use Rattle.framed.specs.Symbols.{names-after, name-table, number-in}
 use Rattle.source.specs.Positions.{rest, part}
 use Rattle.words.specs.Words.{word, set-word}
-use Rattle.words.proofs.Laws.{set-size}
+use Rattle.words.proofs.Laws.{set-size, word-other, word-same}
 use Rattle.token.specs.Reading.{token-of, TokenAt, Spot}
 use Rattle.token.specs.declared.TokenRead.{TokenRead}
 use Rattle.token.proofs.TokenRead.{the-type}
@@ -28,44 +29,15 @@ use Rattle.token.proofs.Answers.{spot-of}
 use Rattle.sweep.specs.Decides.{Short}
 use Rattle.sweep.proofs.Loop as Loop
 use Rattle.sweep.proofs.Loop.{Going, Gives, go-start, go-end, go-none, go-done, go-again, go-early}
-use Rattle.names.specs.Kept.{table-of, is-new, Noted}
-use Rattle.names.proofs.Laws.{table-length, table-more}
+use Rattle.shapes.proofs.Names.{same-equal, same-self}
+use Rattle.names.specs.Kept.{table-of, Numbered}
+use Rattle.names.proofs.Laws.{table-length, number-last, number-stays}
 use Rattle.table_updates.specs.Updates.{set-name-length, set-name-byte}
 use Rattle.emission.specs.Emit.{write-name-bytes, write-names}
 use Rattle.names.proofs.Laws.{grows, names-other, names-name}
-use Rattle.emit_names.specs.Table.{Few, Sized, Kept, write-kept}
+use Rattle.emit_names.specs.Table.{write-kept}
 
 -- ---- The number of a name
-
-number-last : (vs : List (List ℕ)) (v w : List ℕ) → number-in vs w ≡ length vs → number-in (vs ++ (v ∷ [])) w ≡ (if same v w then length vs else suc (length vs))
-unfolding number-in
-number-last [] v w e = go (same v w)
-  where
-    go : (t : Bool) → _≡_ {A = ℕ} (elim t [ true ↦ 0 | false ↦ 1 ]) (if t then 0 else 1)
-    go true = refl
-    go false = refl
-number-last (u ∷ vs) v w e = go (same u w) e (number-last vs v w)
-  where
-    more : (t : Bool) (n : ℕ) → suc (if t then n else suc n) ≡ (if t then suc n else suc (suc n))
-    more true n = refl
-    more false n = refl
-
-    go : (t : Bool) → _≡_ {A = ℕ} (elim t [ true ↦ 0 | false ↦ suc (number-in vs w) ]) (suc (length vs)) →
-        (number-in vs w ≡ length vs → number-in (vs ++ (v ∷ [])) w ≡ (if same v w then length vs else suc (length vs))) →
-        _≡_ {A = ℕ} (elim t [ true ↦ 0 | false ↦ suc (number-in (vs ++ (v ∷ [])) w) ]) (if same v w then suc (length vs) else suc (suc (length vs)))
-    go true e h = absurd (omega arith)
-    go false e h = ap suc (h (omega arith)) ∙ more (same v w) (length vs)
-
-number-stays : (vs ws : List (List ℕ)) (w : List ℕ) → number-in vs w < length vs → number-in (vs ++ ws) w ≡ number-in vs w
-unfolding number-in
-number-stays [] ws w l = absurd (omega arith)
-number-stays (u ∷ vs) ws w l = go (same u w) l (number-stays vs ws w)
-  where
-    go : (t : Bool) → _<_ (elim t [ true ↦ 0 | false ↦ suc (number-in vs w) ]) (suc (length vs)) →
-        (number-in vs w < length vs → number-in (vs ++ ws) w ≡ number-in vs w) →
-        _≡_ {A = ℕ} (elim t [ true ↦ 0 | false ↦ suc (number-in (vs ++ ws) w) ]) (elim t [ true ↦ 0 | false ↦ suc (number-in vs w) ])
-    go true l h = refl
-    go false l h = ap suc (h (omega arith))
 
 -- a number found among the first k is the number among more of them
 table-stays : (s b e w : List ℕ) (k j d : ℕ) → number-in (table-of s b e k) w ≡ j → j < k → number-in (table-of s b e (k + d)) w ≡ j
@@ -110,117 +82,18 @@ module _ (s b e : List ℕ) (n : ℕ) (w : List ℕ) (k : ℕ) (i : Seeking s b 
   pub seek-again : t ≡ false → Seeking s b e n w (k + 1)
   seek-again d = rw (add-one k) (record { within = omega arith; not-yet = rw d at seek-last })
 
--- ---- A token is kept
+-- the number of the bytes of a token
+pub number-part : (table : List (List ℕ)) (v w : List ℕ) → v ≡ w → (r : ℕ) → r ≡ number-in table v → r ≡ number-in table w
+number-part table v w e r h = h ∙ ap (number-in table) e
 
-module _ (s b e : List ℕ) (n k a p : ℕ) where
-  pub keep-other : (k ≡ 25 → ⊥) → Noted s b e n k a p b e n
-  unfolding is-new
-  keep-other h = record { begins-is = rw (ne-eqb k 25 h); ends-is = rw (ne-eqb k 25 h); count-is = rw (ne-eqb k 25 h) }
+-- ---- Each name kept is found at its own number
 
-  module _ (h : k ≡ 25) (m : ℕ) (em : m ≡ n) (t : Bool) (et : t ≡ any (same (part s a p)) (table-of s b e m)) where
-    newness : is-new s b e n k a p ≡ not t
-    unfolding is-new
-    newness = rw (eq-eqb k 25 h, et, em)
-
-    pub keep-known : t ≡ true → Noted s b e n k a p b e n
-    keep-known d = let g : is-new s b e n k a p ≡ false = newness ∙ ap not d in record { begins-is = rw g; ends-is = rw g; count-is = rw g }
-
-    pub keep-new : t ≡ false → (i j : ℕ) → i ≡ n → j ≡ n → (b' e' : List ℕ) → b' ≡ set-word b i a → e' ≡ set-word e j p → Noted s b e n k a p b' e' (n + 1)
-    keep-new d i j ei ej b' e' eb ee =
-        let g : is-new s b e n k a p ≡ true = newness ∙ ap not d in
-        record { begins-is = rw g (eb ∙ rw ei); ends-is = rw g (ee ∙ rw ej); count-is = rw g }
-
--- ---- The loop that keeps them
-
--- names are only added
-names-step : (s : List ℕ) (k a p w : ℕ) (table : List (List ℕ)) (ts : List Token) → k < 29 →
-    names-after table (token-of s k a p w ∷ ts) ≡ names-after (if (eqb k 25 && not (any (same (part s a p)) table)) then table ++ (part s a p ∷ []) else table) ts
-names-step s k a p w table ts l = go (eqb k 25) refl (any (same (part s a p)) table) refl
-  where
-    go : (t : Bool) → eqb k 25 ≡ t → (u : Bool) → any (same (part s a p)) table ≡ u →
-        names-after table (token-of s k a p w ∷ ts) ≡ names-after (if (t && not u) then table ++ (part s a p ∷ []) else table) ts
-    go true x true y = rw (eqb-true k 25 x) (names-name s a p w table ts ∙ rw y)
-    go true x false y = rw (eqb-true k 25 x) (names-name s a p w table ts ∙ rw y)
-    go false x u y = names-other table (token-of s k a p w) ts (λ f. eqb-false k 25 x (sym (kind-is s a p w k l) ∙ f))
-
-pub record Keeping (s b e : List ℕ) (n at : ℕ) : Type 0 where
-  pub begins-size : length b ≡ 129
-  pub ends-size : length e ≡ 129
-  pub few : n ≤ 128
-  pub going : Going name-table s 0 (names-after (table-of s b e n)) at
-
-pub keeping-start : (s b e : List ℕ) → Sized b e → Keeping s b e 0 0
-unfolding table-of name-table
-keeping-start s b e z = record { begins-size = z .begins-size; ends-size = z .ends-size; few = omega arith; going = go-start _ s 0 }
-
-kept-of : (s b e : List ℕ) (n : ℕ) → Gives name-table s 0 (table-of s b e n) → Kept s b e n
-unfolding rest
-kept-of s b e n g = record { is = λ ts f l. sym (g .gives ts f) }
-
-module _ (s b e : List ℕ) (n at : ℕ) (i : Keeping s b e n at) where
-  ended : Gives name-table s 0 (names-after (table-of s b e n) []) → Kept s b e n
-  unfolding names-after
-  ended g = kept-of s b e n g
-
-  pub keeping-done : length s ≤ at → Kept s b e n
-  keeping-done l = ended (go-done _ s 0 _ at (i .going) l)
-
-  pub keeping-few : Few n
-  keeping-few = record { few = i .few }
-
-  module _ (r : TokenRead) (found : TokenAt class s at r) where
-    pub keeping-none : OneOf (0 ∷ 1 ∷ []) (tagOf the-type r) → Kept s b e n
-    keeping-none o = go r refl o
-      where
-        go : (q : TokenRead) → r ≡ q → OneOf (0 ∷ 1 ∷ []) (tagOf the-type q) → Kept s b e n
-        go TokenRead.End h o = ended (go-end _ s 0 _ at (i .going) r found h)
-        go TokenRead.NoToken h o = ended (go-none _ s 0 _ at (i .going) r found h _)
-        go (TokenRead.Token k a p x) h o = absurd (miss (0 ∷ 1 ∷ []) 2 tt o)
-
-    module _ (k a p w : ℕ) (h : r ≡ TokenRead.Token k a p w) (b' e' : List ℕ) (n' : ℕ) (noted : Noted s b e n k a p b' e' n') where
-      record After : Type 0 where
-        begins-size : length b' ≡ 129
-        ends-size : length e' ≡ 129
-        more : n' ≤ 129
-        step : (us : List Token) → names-after (table-of s b e n) (token-of s k a p w ∷ us) ≡ names-after (table-of s b' e' n') us
-
-      after : After
-      unfolding is-new
-      after = go (eqb k 25 && not (any (same (part s a p)) (table-of s b e n))) refl (noted .begins-is) (noted .ends-is) (noted .count-is)
-        where
-          spot : Spot at (length s) k a p
-          spot = spot-of r (found .on) h
-
-          go : (t : Bool) → (eqb k 25 && not (any (same (part s a p)) (table-of s b e n))) ≡ t → b' ≡ (if t then set-word b n a else b) → e' ≡ (if t then set-word e n p else e) → n' ≡ (if t then n + 1 else n) → After
-          go true x eb ee en = record {
-            begins-size = rw eb (set-size b n a ∙ i .begins-size);
-            ends-size = rw ee (set-size e n p ∙ i .ends-size);
-            more = omega (arith, i .few);
-            step = λ us. names-step s k a p w (table-of s b e n) us (spot .known) ∙ rw (x, eb, ee, en, table-more s b e n a p (omega (arith, i .begins-size, i .few)) (omega (arith, i .ends-size, i .few)));
-          }
-          go false x eb ee en = record {
-            begins-size = rw eb (i .begins-size);
-            ends-size = rw ee (i .ends-size);
-            more = omega (arith, i .few);
-            step = λ us. names-step s k a p w (table-of s b e n) us (spot .known) ∙ rw (x, eb, ee, en);
-          }
-
-      pub keeping-many : 128 < n' → Kept s b' e' n'
-      unfolding rest
-      keeping-many l = record { is = λ ts f m. absurd (go ts f m) }
-        where
-          go : (ts : List Token) → tokens class s ≡ some ts → length (name-table ts) ≤ 128 → ⊥
-          go ts f m =
-              let u = Loop.go-token _ s 0 _ at (i .going) r found k a p w h ts f in
-              omega (arith, ap length (u .2 ∙ after .step (u .0)), grows (table-of s b' e' n') (u .0), table-length s b' e' n')
-
-      pub keeping-again : n' ≤ 128 → Keeping s b' e' n' p
-      keeping-again l = record {
-        begins-size = after .begins-size;
-        ends-size = after .ends-size;
-        few = l;
-        going = go-again _ s 0 _ at (i .going) r found k a p w h _ (λ us f. after .step us);
-      }
+-- the number where the hint leads to the name itself
+pub number-there : (s b e : List ℕ) (n a p : ℕ) → Numbered s b e n → (k : ℕ) → k < n → (j j' x y : ℕ) → j ≡ k → x ≡ word b j → j' ≡ k → y ≡ word e j' →
+    (t : Bool) → t ≡ same (part s x y) (part s a p) → t ≡ true → k ≡ number-in (table-of s b e n) (part s a p)
+number-there s b e n a p i k l j j' x y ej ex ej' ey t h d =
+    let there : part s (word b k) (word e k) ≡ part s a p = rw (← ej, ← ex) (rw (ej, ← ej', ← ey) (same-equal (part s x y) (part s a p) (sym h ∙ d))) in
+    sym (ap (number-in (table-of s b e n)) (sym there) ∙ i .own k l)
 
 -- ---- The bytes of a name
 

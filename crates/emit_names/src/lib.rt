@@ -1,13 +1,13 @@
-// The names of a source: kept by first appearance, the number of each, and the name table written into program words.
+// The names kept of a source: the number of each, and the name table written into program words.
 ghost use mathlib.Core.Path.{_≡_};
 ghost use Rattle.framed.specs.Symbols.{number-in};
-ghost use Rattle.names.specs.Kept.{table-of, Noted};
+ghost use Rattle.source.specs.Positions.{part};
+ghost use Rattle.names.specs.Kept.{table-of, Numbered};
 ghost use Rattle.sweep.specs.Decides.{Short};
 ghost use Rattle.table_updates.specs.Updates.{set-name-length};
 ghost use Rattle.emission.specs.Emit.{write-name-bytes, write-names};
 ghost use lib.ListN.{length};
-ghost use Rattle.emit_names.specs.Table.{Few, Sized, Kept, write-kept};
-use token::TokenRead;
+ghost use Rattle.emit_names.specs.Table.{write-kept};
 use words::wide;
 
 // The number of a word among the first n names kept; n where it is none of them.
@@ -27,50 +27,30 @@ pub fn number_of(s: &[u8], begins: &[usize], ends: &[usize], n: u32, w: &[u8]) -
     n
 }
 
-// Keeps a token of kind k where it is a new name: how many are kept after it.
-fn keep(
+// The number of the part from a up to p among the first n names kept; n where it is none of them. Where the hint leads to the name itself, no other is looked at.
+pub fn number_at(
     s: &[u8],
-    begins: &mut [usize],
-    ends: &mut [usize],
+    begins: &[usize],
+    ends: &[usize],
+    hints: &[u8; 1024],
     n: u32,
-    k: u32,
     a: usize,
     p: usize,
 ) -> u32
-    requires { ⌜ Few n ⌝ }
-    ensures { λ r. ⌜ Noted (now (s .entry)) (now (begins .entry)) (now (ends .entry)) n k a p (now (begins .exit)) (now (ends .exit)) r ⌝ }
+    requires { ⌜ Numbered (now s) (now begins) (now ends) n ⌝ }
+    ensures { λ r. ⌜ r ≡ number-in (table-of (now (s .entry)) (now (begins .entry)) (now (ends .entry)) n) (part (now (s .entry)) a p) ⌝ }
 {
-    if k != 25 {
-        return n;
-    }
-    if names::known(s, begins, ends, wide(n), a, p) {
-        return n;
-    }
-    names::set_place(begins, wide(n), a);
-    names::set_place(ends, wide(n), p);
-    n + 1
-}
-
-// Keeps the names of the source by first appearance, at most 128: how many there are.
-pub fn keep_names(s: &[u8], begins: &mut [usize], ends: &mut [usize]) -> u32
-    requires { ⌜ Sized (now begins) (now ends) ⌝ }
-    ensures { λ r. ⌜ Kept (now (s .entry)) (now (begins .exit)) (now (ends .exit)) r ⌝ }
-{
-    let classes = source::classes();
-    let mut n = 0;
-    let mut at = 0;
-    while at < s.len() {
-        let t = token::token_in(&classes, s, at);
-        let TokenRead::Token(k, a, p, _w) = t else {
-            return n;
-        };
-        n = keep(s, begins, ends, n, k, a, p);
-        if 128 < n {
-            return n;
+    let g = names::hint(s, hints, a, p);
+    let k = emit_steps::less(g, 1);
+    if k < n {
+        let b = names::place(begins, wide(k));
+        let q = names::place(ends, wide(k));
+        if names::same_parts(s, b, q, a, p) {
+            return k;
         }
-        at = p;
     }
-    n
+    let w = token::token_bytes(s, a, p);
+    number_of(s, begins, ends, n, w)
 }
 
 // The bytes of name k.

@@ -66,10 +66,6 @@ room p n m ns h = go (n .paths) (length ns) (h .path-names-small)
     go : (j k : ℕ) → j + suc k < 4294967296 → j < 4294967295
     go j k l = omega arith
 
--- the number of the bytes of a token
-pub number-part : (table : List (List ℕ)) (v w : List ℕ) → v ≡ w → (r : ℕ) → r ≡ number-in table v → r ≡ number-in table w
-number-part table v w e r h = h ∙ ap (number-in table) e
-
 module _ (s b e : List ℕ) (count : ℕ) (n₀ : Next) (p₀ : List ℕ) where
   pub dotted-start : Leads NamesHere emit-path s (table-of s b e count) n₀ p₀ n₀ p₀ (n₀ .at)
   dotted-start = record { here = refl; size = refl; back = λ p' r x. x }

@@ -2,7 +2,9 @@
 ghost use mathlib.Core.Path.{_≡_};
 ghost use Rattle.framed.specs.Symbols.{number-in};
 ghost use Rattle.source.specs.Positions.{part};
-ghost use Rattle.names.specs.Kept.{table-of};
+ghost use Rattle.names.specs.Kept.{table-of, Numbered};
+ghost use Rattle.token_cache.specs.Cache.{Cached};
+ghost use Rattle.emit_names.specs.Table.{Ready};
 ghost use Rattle.emission.specs.Emit.{emit-path};
 ghost use Rattle.grammar.specs.Runs.{Sees};
 ghost use Rattle.emit_paths.specs.Emits.{Emits, NamesHere, UpsRead, HolderDone, UpHere, PathHere, path-emitted};
@@ -12,36 +14,46 @@ use grammar::Seen;
 use words::wide;
 
 // The number of the name that t is.
-pub fn name_number(s: &[u8], begins: &[usize], ends: &[usize], count: u32, t: Seen) -> u32
+pub fn name_number(
+    s: &[u8],
+    begins: &[usize],
+    ends: &[usize],
+    hints: &[u8; 1024],
+    count: u32,
+    t: Seen,
+) -> u32
+    requires { ⌜ Numbered (now s) (now begins) (now ends) count ⌝ }
     ensures { λ r. ⌜ r ≡ number-in (table-of (now (s .entry)) (now (begins .entry)) (now (ends .entry)) count) (part (now (s .entry)) (t .begin) (t .end)) ⌝ }
 {
-    let w = token::token_bytes(s, t.begin, t.end);
-    emit_names::number_of(s, begins, ends, count, w)
+    emit_names::number_at(s, begins, ends, hints, count, t.begin, t.end)
 }
 
 // The names after dots, as path names.
 pub fn dotted(
+    c: &[u64; 16384],
     s: &[u8],
     begins: &[usize],
     ends: &[usize],
+    hints: &[u8; 1024],
     count: u32,
     p: &mut [u32],
     n: Next,
 ) -> Next
+    requires { ⌜ Ready (now c) (now s) (now begins) (now ends) count ⌝ }
     ensures { λ r. ⌜ Emits NamesHere emit-path (now (s .entry)) (table-of (now (s .entry)) (now (begins .entry)) (now (ends .entry)) count) n (now (p .entry)) (now (p .exit)) r ⌝ }
 {
     let mut m = n;
     let mut at = n.at;
     while at < s.len() {
-        let d = grammar::look(s, at);
+        let d = grammar::look(c, s, at);
         if d.kind != 7 {
             return m;
         }
-        let t = grammar::look(s, d.end);
+        let t = grammar::look(c, s, d.end);
         if t.kind != 25 {
             return m;
         }
-        let k = name_number(s, begins, ends, count, t);
+        let k = name_number(s, begins, ends, hints, count, t);
         table_updates::set_path_name(p, m.paths, k);
         m = emit_steps::one_path_name(m, t.end);
         at = t.end;
@@ -56,13 +68,14 @@ pub struct Levels {
 }
 
 // Further `^`, each after a dot.
-pub fn ups(s: &[u8], from: usize, depth: u32) -> Levels
+pub fn ups(c: &[u64; 16384], s: &[u8], from: usize, depth: u32) -> Levels
+    requires { ⌜ Cached (now c) (now s) ⌝ }
     ensures { λ r. ⌜ UpsRead (now (s .entry)) from depth r ⌝ }
 {
     let mut at = from;
     let mut d = depth;
     while at < s.len() {
-        let q = emit_steps::pass_two(s, at, 7, 8);
+        let q = emit_steps::pass_two(c, s, at, 7, 8);
         if q <= at {
             return Levels { at: at, levels: d };
         }
@@ -95,41 +108,45 @@ pub fn holder(p: &mut [u32], place: Place, levels: u32, n: Next) -> Next
 
 // A path that begins with `^`, resolved; its first token is t.
 fn up_path(
+    c: &[u64; 16384],
     s: &[u8],
     begins: &[usize],
     ends: &[usize],
+    hints: &[u8; 1024],
     count: u32,
     p: &mut [u32],
     place: Place,
     n: Next,
     t: Seen,
 ) -> Next
-    requires { ⌜ Sees (now s) (n .at) t ⌝ }
+    requires { ⌜ Ready (now c) (now s) (now begins) (now ends) count × Sees (now s) (n .at) t ⌝ }
     ensures { λ r. ⌜ Emits (UpHere place) (path-emitted place) (now (s .entry)) (table-of (now (s .entry)) (now (begins .entry)) (now (ends .entry)) count) n (now (p .entry)) (now (p .exit)) r ⌝ }
 {
-    let u = ups(s, t.end, place.depth);
+    let u = ups(c, s, t.end, place.depth);
     let k = emit_steps::go_to(n, u.at);
     let m = holder(p, place, u.levels, k);
-    dotted(s, begins, ends, count, p, m)
+    dotted(c, s, begins, ends, hints, count, p, m)
 }
 
 // A path, resolved; its first token is t.
 pub fn emit_path(
+    c: &[u64; 16384],
     s: &[u8],
     begins: &[usize],
     ends: &[usize],
+    hints: &[u8; 1024],
     count: u32,
     p: &mut [u32],
     place: Place,
     n: Next,
     t: Seen,
 ) -> Next
-    requires { ⌜ Sees (now s) (n .at) t ⌝ }
+    requires { ⌜ Ready (now c) (now s) (now begins) (now ends) count × Sees (now s) (n .at) t ⌝ }
     ensures { λ r. ⌜ Emits (PathHere place) (path-emitted place) (now (s .entry)) (table-of (now (s .entry)) (now (begins .entry)) (now (ends .entry)) count) n (now (p .entry)) (now (p .exit)) r ⌝ }
 {
     if t.kind == 1 {
         let m = emit_steps::go_to(n, t.end);
-        return dotted(s, begins, ends, count, p, m);
+        return dotted(c, s, begins, ends, hints, count, p, m);
     }
-    up_path(s, begins, ends, count, p, place, n, t)
+    up_path(c, s, begins, ends, hints, count, p, place, n, t)
 }

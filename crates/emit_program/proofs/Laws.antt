@@ -12,7 +12,7 @@ use Rattle.framed.specs.Paths.{Path, resolve-slots, program-place}
 use Rattle.framed.specs.Meaning.{Lengths, refusal, main-start}
 use Rattle.framed.specs.Program.{Program, program, program-of}
 use Rattle.sweep.specs.Decides.{Short}
-use Rattle.names.specs.Kept.{table-of}
+use Rattle.names.specs.Kept.{table-of, Kept}
 use Rattle.names.proofs.Laws.{table-length}
 use Rattle.table_updates.specs.Updates.{set-frame-limit, set-text-limit, set-names, set-literals, set-expressions, set-instructions, set-codes, set-path-names, set-program-slots, set-start}
 use Rattle.trees.specs.Held.{program-held}
@@ -24,7 +24,6 @@ use Rattle.emission_accepted.proofs.Kept.{accepted-kept}
 use Rattle.accepted.specs.Accepted.{SourceFits}
 use Rattle.accepted.proofs.Accepted.{accepted-sources}
 use Rattle.accepted.proofs.Start.{accepted-start}
-use Rattle.emit_names.specs.Table.{Kept}
 use Rattle.emit_literals.specs.Literals.{Both, both, AllWritten}
 use Rattle.emit_steps.specs.Steps.{numbers}
 use Rattle.emit_steps.specs.declared.Next.{Next}

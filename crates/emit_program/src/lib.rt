@@ -1,7 +1,9 @@
 // Program words and literal bytes of a source that load accepts.
 use emit_steps::Next;
 ghost use mathlib.Core.Path.{_≡_};
-ghost use Rattle.names.specs.Kept.{table-of};
+ghost use Rattle.names.specs.Kept.{table-of, Kept};
+ghost use Rattle.token_cache.specs.Cache.{Cached};
+ghost use Rattle.emit_names.specs.Table.{Ready};
 ghost use Rattle.sweep.specs.Decides.{Short};
 ghost use Rattle.emit_steps.specs.Steps.{numbers};
 ghost use Rattle.emit_program.specs.Written.{write-limits, write-counts, write-start, TreeWritten, HeaderWritten, TablesWritten, CanEmit, Emitted};
@@ -39,6 +41,7 @@ fn write_start(s: &[u8], begins: &[usize], ends: &[usize], count: u32, p: &mut [
 
 // The header, where the tree, the names and the literals are written.
 fn write_header(
+    c: &[u64; 16384],
     s: &[u8],
     begins: &[usize],
     ends: &[usize],
@@ -49,52 +52,73 @@ fn write_header(
     t: u32,
     p: &mut [u32],
 )
+    requires { ⌜ Cached (now c) (now s) ⌝ }
     ensures { λ _. ⌜ HeaderWritten (now (s .entry)) (now (begins .entry)) (now (ends .entry)) count literals n f t (now (p .entry)) (now (p .exit)) ⌝ }
 {
     write_limits(p, f, t, count, literals);
-    let z = emit_tree::first_slot_place(s);
+    let z = emit_tree::first_slot_place(c, s);
     write_counts(p, n, z);
     write_start(s, begins, ends, count, p);
 }
 
 // The tree and the names: the numbers after the tree.
-fn write_tree(s: &[u8], begins: &[usize], ends: &[usize], count: u32, p: &mut [u32]) -> Next
-    requires { ⌜ Short (now s) ⌝ }
+fn write_tree(
+    c: &[u64; 16384],
+    s: &[u8],
+    begins: &[usize],
+    ends: &[usize],
+    hints: &[u8; 1024],
+    count: u32,
+    p: &mut [u32],
+) -> Next
+    requires { ⌜ Ready (now c) (now s) (now begins) (now ends) count × Short (now s) ⌝ }
     ensures { λ r. ⌜ TreeWritten (now (s .entry)) (now (begins .entry)) (now (ends .entry)) count (now (p .entry)) (now (p .exit)) r ⌝ }
 {
-    let n = emit_tree::emit_tree(s, begins, ends, count, p);
+    let n = emit_tree::emit_tree(c, s, begins, ends, hints, count, p);
     emit_names::write_names(s, begins, ends, count, p);
     n
 }
 
 // Both memories, where the names are kept.
 fn write_tables(
+    c: &[u64; 16384],
     s: &[u8],
     begins: &[usize],
     ends: &[usize],
+    hints: &[u8; 1024],
     count: u32,
     f: u32,
     t: u32,
     p: &mut [u32],
     l: &mut [u8],
 )
-    requires { ⌜ Short (now s) ⌝ }
+    requires { ⌜ Ready (now c) (now s) (now begins) (now ends) count × Short (now s) ⌝ }
     ensures { λ _. ⌜ TablesWritten (now (s .entry)) (now (begins .entry)) (now (ends .entry)) count f t (now (p .entry)) (now (l .entry)) (now (p .exit)) (now (l .exit)) ⌝ }
 {
-    let n = write_tree(s, begins, ends, count, p);
-    let literals = emit_literals::write_literals(s, p, l);
-    write_header(s, begins, ends, count, literals, n, f, t, p);
+    let n = write_tree(c, s, begins, ends, hints, count, p);
+    let literals = emit_literals::write_literals(c, s, p, l);
+    write_header(c, s, begins, ends, count, literals, n, f, t, p);
 }
 
-// Both memories become those of the program of the source, with its limits.
-pub fn emit(s: &[u8], f: u32, t: u32, p: &mut [u32], l: &mut [u8])
-    requires { ⌜ CanEmit (now s) (now p) (now l) ⌝ }
+// Both memories become those of the program of the source, with its limits; its names are kept.
+pub fn emit(
+    c: &[u64; 16384],
+    s: &[u8],
+    begins: &[usize],
+    ends: &[usize],
+    hints: &[u8; 1024],
+    count: u32,
+    f: u32,
+    t: u32,
+    p: &mut [u32],
+    l: &mut [u8],
+)
+    requires cached { ⌜ Cached (now c) (now s) ⌝ }
+    requires kept { ⌜ Kept (now s) (now begins) (now ends) count ⌝ }
+    requires can { ⌜ CanEmit (now s) (now p) (now l) ⌝ }
     ensures { λ _. ⌜ Emitted (now (s .entry)) f t (now (p .exit)) (now (l .exit)) ⌝ }
 {
-    let mut begins = [0usize; 129];
-    let mut ends = [0usize; 129];
     clearing::clear_words(p);
     clearing::clear_bytes(l);
-    let count = emit_names::keep_names(s, &mut begins, &mut ends);
-    write_tables(s, &begins, &ends, count, f, t, p, l);
+    write_tables(c, s, begins, ends, hints, count, f, t, p, l);
 }

@@ -3,6 +3,7 @@ ghost use mathlib.Core.Path.{_≡_};
 ghost use Prim.Native.Nat.{_-_};
 ghost use Rattle.emit_steps.specs.Steps.{one-more, go-to, take-expression, take-instruction, take-path-name, take-string, take-code, inner-slot, inner-code};
 ghost use Rattle.emit_steps.specs.Steps.{Pass, PassTwo, PassFrame};
+ghost use Rattle.token_cache.specs.Cache.{Cached};
 use token::TokenRead;
 use words::wide;
 
@@ -168,10 +169,11 @@ pub fn within_code(place: Place) -> Place
 // ---- Tokens
 
 // The position after a token of kind k; the same position where there is none.
-pub fn pass(s: &[u8], at: usize, k: u32) -> usize
+pub fn pass(c: &[u64; 16384], s: &[u8], at: usize, k: u32) -> usize
+    requires { ⌜ Cached (now c) (now s) ⌝ }
     ensures { λ r. ⌜ Pass (now (s .entry)) at k r ⌝ }
 {
-    let t = token::token_at(s, at);
+    let t = token_cache::token_in(c, s, at);
     let TokenRead::Token(j, _a, p, _w) = t else {
         return at;
     };
@@ -182,14 +184,15 @@ pub fn pass(s: &[u8], at: usize, k: u32) -> usize
 }
 
 // The position after a token of kind j and one of kind k; the same position where they are not there.
-pub fn pass_two(s: &[u8], at: usize, j: u32, k: u32) -> usize
+pub fn pass_two(c: &[u64; 16384], s: &[u8], at: usize, j: u32, k: u32) -> usize
+    requires { ⌜ Cached (now c) (now s) ⌝ }
     ensures { λ r. ⌜ PassTwo (now (s .entry)) at j k r ⌝ }
 {
-    let p = pass(s, at, j);
+    let p = pass(c, s, at, j);
     if p <= at {
         return at;
     }
-    let q = pass(s, p, k);
+    let q = pass(c, s, p, k);
     if q <= p {
         return at;
     }
@@ -197,14 +200,15 @@ pub fn pass_two(s: &[u8], at: usize, j: u32, k: u32) -> usize
 }
 
 // The position after `frame` `:` `[`; the same position where they are not there.
-pub fn pass_frame(s: &[u8], at: usize) -> usize
+pub fn pass_frame(c: &[u64; 16384], s: &[u8], at: usize) -> usize
+    requires { ⌜ Cached (now c) (now s) ⌝ }
     ensures { λ r. ⌜ PassFrame (now (s .entry)) at r ⌝ }
 {
-    let p = pass_two(s, at, 0, 5);
+    let p = pass_two(c, s, at, 0, 5);
     if p <= at {
         return at;
     }
-    let q = pass(s, p, 12);
+    let q = pass(c, s, p, 12);
     if q <= p {
         return at;
     }

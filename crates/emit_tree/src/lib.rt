@@ -1,5 +1,7 @@
 // The tree of a source written as program words: functions over a source and a position that call each other in a cycle, as the readers of `grammar` do.
 ghost use Rattle.names.specs.Kept.{table-of};
+ghost use Rattle.token_cache.specs.Cache.{Cached};
+ghost use Rattle.emit_names.specs.Table.{Ready};
 ghost use Rattle.grammar.specs.Runs.{Sees};
 ghost use Rattle.emit_paths.specs.Emits.{Emits};
 ghost use Rattle.emit_leaves.specs.Parts.{Stands};
@@ -17,9 +19,11 @@ use tables::InstructionEntry;
 
 // `code` `{` instructions `}`; the first token is t.
 fn block(
+    c: &[u64; 16384],
     s: &[u8],
     begins: &[usize],
     ends: &[usize],
+    hints: &[u8; 1024],
     count: u32,
     p: &mut [u32],
     place: Place,
@@ -27,25 +31,27 @@ fn block(
     n: Next,
     t: Seen,
 ) -> Next
-    requires { ⌜ Sees (now s) (n .at) t ⌝ }
+    requires { ⌜ Ready (now c) (now s) (now begins) (now ends) count × Sees (now s) (n .at) t ⌝ }
     ensures { λ r. ⌜ Emits (BlockHere place) (base-emitted place x) (now (s .entry)) (table-of (now (s .entry)) (now (begins .entry)) (now (ends .entry)) count) n (now (p .entry)) (now (p .exit)) r ⌝ }
 {
-    let o = emit_leaves::open_block(s, p, x, n, t);
+    let o = emit_leaves::open_block(c, s, p, x, n, t);
     let m = o.next;
     if m.at <= n.at {
         return m;
     }
     let inner = emit_steps::within_code(place);
     let first = o.seen;
-    let u = instructions(s, begins, ends, count, p, inner, m, first);
-    emit_leaves::skip(s, u, 15)
+    let u = instructions(c, s, begins, ends, hints, count, p, inner, m, first);
+    emit_leaves::skip(c, s, u, 15)
 }
 
 // Integer, string, path or code as expression x; its first token is t.
 fn base(
+    c: &[u64; 16384],
     s: &[u8],
     begins: &[usize],
     ends: &[usize],
+    hints: &[u8; 1024],
     count: u32,
     p: &mut [u32],
     place: Place,
@@ -53,14 +59,14 @@ fn base(
     n: Next,
     t: Seen,
 ) -> Next
-    requires { ⌜ Sees (now s) (n .at) t ⌝ }
+    requires { ⌜ Ready (now c) (now s) (now begins) (now ends) count × Sees (now s) (n .at) t ⌝ }
     ensures { λ r. ⌜ Emits (BaseHere place) (base-emitted place x) (now (s .entry)) (table-of (now (s .entry)) (now (begins .entry)) (now (ends .entry)) count) n (now (p .entry)) (now (p .exit)) r ⌝ }
 {
     if t.kind == 28 {
-        return block(s, begins, ends, count, p, place, x, n, t);
+        return block(c, s, begins, ends, hints, count, p, place, x, n, t);
     }
     if t.kind < 26 {
-        return emit_bases::path_base(s, begins, ends, count, p, place, x, n, t);
+        return emit_bases::path_base(c, s, begins, ends, hints, count, p, place, x, n, t);
     }
     if t.kind == 26 {
         return emit_leaves::integer(s, p, x, n, t);
@@ -70,29 +76,34 @@ fn base(
 
 // A base as the next expression.
 fn operand(
+    c: &[u64; 16384],
     s: &[u8],
     begins: &[usize],
     ends: &[usize],
+    hints: &[u8; 1024],
     count: u32,
     p: &mut [u32],
     place: Place,
     n: Next,
 ) -> Next
+    requires { ⌜ Ready (now c) (now s) (now begins) (now ends) count ⌝ }
     ensures { λ r. ⌜ Emits (BaseHere place) (operand-emitted place) (now (s .entry)) (table-of (now (s .entry)) (now (begins .entry)) (now (ends .entry)) count) n (now (p .entry)) (now (p .exit)) r ⌝ }
 {
     let x = n.expressions;
     let m = emit_steps::one_expression(n, n.at);
-    let t = grammar::look(s, m.at);
-    base(s, begins, ends, count, p, place, x, m, t)
+    let t = grammar::look(c, s, m.at);
+    base(c, s, begins, ends, hints, count, p, place, x, m, t)
 }
 
 // ---- Expressions
 
 // `!` base; the first token is t.
 fn negation(
+    c: &[u64; 16384],
     s: &[u8],
     begins: &[usize],
     ends: &[usize],
+    hints: &[u8; 1024],
     count: u32,
     p: &mut [u32],
     place: Place,
@@ -100,19 +111,21 @@ fn negation(
     n: Next,
     t: Seen,
 ) -> Next
-    requires { ⌜ Sees (now s) (n .at) t ⌝ }
+    requires { ⌜ Ready (now c) (now s) (now begins) (now ends) count × Sees (now s) (n .at) t ⌝ }
     ensures { λ r. ⌜ Emits (NegationHere place) (expression-emitted place place x) (now (s .entry)) (table-of (now (s .entry)) (now (begins .entry)) (now (ends .entry)) count) n (now (p .entry)) (now (p .exit)) r ⌝ }
 {
     let m = emit_steps::go_to(n, t.end);
     table_updates::set_expression(p, x, ExpressionEntry::Not(m.expressions));
-    operand(s, begins, ends, count, p, place, m)
+    operand(c, s, begins, ends, hints, count, p, place, m)
 }
 
 // base operator base; the first token is t.
 fn binary(
+    c: &[u64; 16384],
     s: &[u8],
     begins: &[usize],
     ends: &[usize],
+    hints: &[u8; 1024],
     count: u32,
     p: &mut [u32],
     place: Place,
@@ -120,21 +133,23 @@ fn binary(
     n: Next,
     t: Seen,
 ) -> Next
-    requires { ⌜ Sees (now s) (n .at) t ⌝ }
+    requires { ⌜ Ready (now c) (now s) (now begins) (now ends) count × Sees (now s) (n .at) t ⌝ }
     ensures { λ r. ⌜ Emits (BinaryHere place) (expression-emitted place place x) (now (s .entry)) (table-of (now (s .entry)) (now (begins .entry)) (now (ends .entry)) count) n (now (p .entry)) (now (p .exit)) r ⌝ }
 {
     let a = n.expressions;
     let m = emit_steps::one_expression(n, n.at);
-    let u = base(s, begins, ends, count, p, place, a, m, t);
-    let v = emit_leaves::operator(s, p, x, a, u);
-    operand(s, begins, ends, count, p, place, v)
+    let u = base(c, s, begins, ends, hints, count, p, place, a, m, t);
+    let v = emit_leaves::operator(c, s, p, x, a, u);
+    operand(c, s, begins, ends, hints, count, p, place, v)
 }
 
 // `frame` `:` `[` slots `]`; the first token is t.
 fn frame(
+    c: &[u64; 16384],
     s: &[u8],
     begins: &[usize],
     ends: &[usize],
+    hints: &[u8; 1024],
     count: u32,
     p: &mut [u32],
     inner: Place,
@@ -142,24 +157,26 @@ fn frame(
     n: Next,
     t: Seen,
 ) -> Next
-    requires { ⌜ Sees (now s) (n .at) t ⌝ }
+    requires { ⌜ Ready (now c) (now s) (now begins) (now ends) count × Sees (now s) (n .at) t ⌝ }
     ensures { λ r. ⌜ Emits (FrameHere inner) (expression-emitted inner inner x) (now (s .entry)) (table-of (now (s .entry)) (now (begins .entry)) (now (ends .entry)) count) n (now (p .entry)) (now (p .exit)) r ⌝ }
 {
-    let o = emit_leaves::open_frame(s, p, x, n, t);
+    let o = emit_leaves::open_frame(c, s, p, x, n, t);
     let m = o.next;
     if m.at <= n.at {
         return m;
     }
     let first = o.seen;
-    let u = slots(s, begins, ends, count, p, inner, m, first);
-    emit_leaves::skip(s, u, 13)
+    let u = slots(c, s, begins, ends, hints, count, p, inner, m, first);
+    emit_leaves::skip(c, s, u, 13)
 }
 
 // An expression as expression x, whose first token is t; `inner` is the place of what is written in a frame that it is.
 fn expression(
+    c: &[u64; 16384],
     s: &[u8],
     begins: &[usize],
     ends: &[usize],
+    hints: &[u8; 1024],
     count: u32,
     p: &mut [u32],
     place: Place,
@@ -168,47 +185,52 @@ fn expression(
     n: Next,
     t: Seen,
 ) -> Next
-    requires { ⌜ Sees (now s) (n .at) t ⌝ }
+    requires { ⌜ Ready (now c) (now s) (now begins) (now ends) count × Sees (now s) (n .at) t ⌝ }
     ensures { λ r. ⌜ Emits (ExpressionHere place inner) (expression-emitted place inner x) (now (s .entry)) (table-of (now (s .entry)) (now (begins .entry)) (now (ends .entry)) count) n (now (p .entry)) (now (p .exit)) r ⌝ }
 {
     if t.kind == 0 {
-        return frame(s, begins, ends, count, p, inner, x, n, t);
+        return frame(c, s, begins, ends, hints, count, p, inner, x, n, t);
     }
     if t.kind == 9 {
-        return negation(s, begins, ends, count, p, place, x, n, t);
+        return negation(c, s, begins, ends, hints, count, p, place, x, n, t);
     }
-    if emit_leaves::operator_after(s, n.at, t) {
-        return binary(s, begins, ends, count, p, place, x, n, t);
+    if emit_leaves::operator_after(c, s, n.at, t) {
+        return binary(c, s, begins, ends, hints, count, p, place, x, n, t);
     }
-    base(s, begins, ends, count, p, place, x, n, t)
+    base(c, s, begins, ends, hints, count, p, place, x, n, t)
 }
 
 // An expression as the next expression.
 fn right(
+    c: &[u64; 16384],
     s: &[u8],
     begins: &[usize],
     ends: &[usize],
+    hints: &[u8; 1024],
     count: u32,
     p: &mut [u32],
     place: Place,
     inner: Place,
     n: Next,
 ) -> Next
+    requires { ⌜ Ready (now c) (now s) (now begins) (now ends) count ⌝ }
     ensures { λ r. ⌜ Emits (ExpressionHere place inner) (right-emitted place inner) (now (s .entry)) (table-of (now (s .entry)) (now (begins .entry)) (now (ends .entry)) count) n (now (p .entry)) (now (p .exit)) r ⌝ }
 {
     let x = n.expressions;
     let m = emit_steps::one_expression(n, n.at);
-    let t = grammar::look(s, m.at);
-    expression(s, begins, ends, count, p, place, inner, x, m, t)
+    let t = grammar::look(c, s, m.at);
+    expression(c, s, begins, ends, hints, count, p, place, inner, x, m, t)
 }
 
 // ---- Slots
 
 // One slot, whose name is the token t and whose expression begins at q.
 fn slot(
+    c: &[u64; 16384],
     s: &[u8],
     begins: &[usize],
     ends: &[usize],
+    hints: &[u8; 1024],
     count: u32,
     p: &mut [u32],
     place: Place,
@@ -216,28 +238,30 @@ fn slot(
     q: usize,
     t: Seen,
 ) -> Stand
-    requires { ⌜ Sees (now s) (n .at) t ⌝ }
+    requires { ⌜ Ready (now c) (now s) (now begins) (now ends) count × Sees (now s) (n .at) t ⌝ }
     ensures { λ r. ⌜ Stands (now (s .entry)) (SlotEmits place (now (s .entry)) (table-of (now (s .entry)) (now (begins .entry)) (now (ends .entry)) count) n q (now (p .entry)) (now (p .exit))) r ⌝ }
 {
-    let k = emit_leaves::name_slot(s, begins, ends, count, p, n, t);
+    let k = emit_leaves::name_slot(s, begins, ends, hints, count, p, n, t);
     let inner = emit_steps::within_slot(place, k);
     let m = emit_steps::go_to(n, q);
-    let u = right(s, begins, ends, count, p, place, inner, m);
-    emit_leaves::close_slot(s, p, n.expressions, u)
+    let u = right(c, s, begins, ends, hints, count, p, place, inner, m);
+    emit_leaves::close_slot(c, s, p, n.expressions, u)
 }
 
 // Slots, parted by commas; the first token is `first`.
 fn slots(
+    c: &[u64; 16384],
     s: &[u8],
     begins: &[usize],
     ends: &[usize],
+    hints: &[u8; 1024],
     count: u32,
     p: &mut [u32],
     place: Place,
     n: Next,
     first: Seen,
 ) -> Next
-    requires { ⌜ Sees (now s) (n .at) first ⌝ }
+    requires { ⌜ Ready (now c) (now s) (now begins) (now ends) count × Sees (now s) (n .at) first ⌝ }
     ensures { λ r. ⌜ Emits (SlotsHere place) (slots-emitted place) (now (s .entry)) (table-of (now (s .entry)) (now (begins .entry)) (now (ends .entry)) count) n (now (p .entry)) (now (p .exit)) r ⌝ }
 {
     let mut m = n;
@@ -246,11 +270,11 @@ fn slots(
         if t.kind != 25 {
             return m;
         }
-        let q = emit_steps::pass(s, t.end, 6);
+        let q = emit_steps::pass(c, s, t.end, 6);
         if q <= t.end {
             return m;
         }
-        let r = slot(s, begins, ends, count, p, place, m, q, t);
+        let r = slot(c, s, begins, ends, hints, count, p, place, m, q, t);
         m = r.next;
         t = r.seen;
     }
@@ -261,9 +285,11 @@ fn slots(
 
 // `show` base; the first token is t.
 fn showing(
+    c: &[u64; 16384],
     s: &[u8],
     begins: &[usize],
     ends: &[usize],
+    hints: &[u8; 1024],
     count: u32,
     p: &mut [u32],
     place: Place,
@@ -271,19 +297,21 @@ fn showing(
     n: Next,
     t: Seen,
 ) -> Next
-    requires { ⌜ Sees (now s) (n .at) t ⌝ }
+    requires { ⌜ Ready (now c) (now s) (now begins) (now ends) count × Sees (now s) (n .at) t ⌝ }
     ensures { λ r. ⌜ Emits (ShowHere place) (instruction-emitted place i) (now (s .entry)) (table-of (now (s .entry)) (now (begins .entry)) (now (ends .entry)) count) n (now (p .entry)) (now (p .exit)) r ⌝ }
 {
     let m = emit_steps::go_to(n, t.end);
     table_updates::set_instruction(p, i, InstructionEntry::Show(m.expressions));
-    operand(s, begins, ends, count, p, place, m)
+    operand(c, s, begins, ends, hints, count, p, place, m)
 }
 
 // `jump` base base; the first token is t.
 fn jumping(
+    c: &[u64; 16384],
     s: &[u8],
     begins: &[usize],
     ends: &[usize],
+    hints: &[u8; 1024],
     count: u32,
     p: &mut [u32],
     place: Place,
@@ -291,20 +319,22 @@ fn jumping(
     n: Next,
     t: Seen,
 ) -> Next
-    requires { ⌜ Sees (now s) (n .at) t ⌝ }
+    requires { ⌜ Ready (now c) (now s) (now begins) (now ends) count × Sees (now s) (n .at) t ⌝ }
     ensures { λ r. ⌜ Emits (JumpHere place) (instruction-emitted place i) (now (s .entry)) (table-of (now (s .entry)) (now (begins .entry)) (now (ends .entry)) count) n (now (p .entry)) (now (p .exit)) r ⌝ }
 {
     let m = emit_steps::go_to(n, t.end);
-    let u = operand(s, begins, ends, count, p, place, m);
+    let u = operand(c, s, begins, ends, hints, count, p, place, m);
     table_updates::set_instruction(p, i, InstructionEntry::Jump(m.expressions, u.expressions));
-    operand(s, begins, ends, count, p, place, u)
+    operand(c, s, begins, ends, hints, count, p, place, u)
 }
 
 // `ifeq` base base base; the first token is t.
 fn branching(
+    c: &[u64; 16384],
     s: &[u8],
     begins: &[usize],
     ends: &[usize],
+    hints: &[u8; 1024],
     count: u32,
     p: &mut [u32],
     place: Place,
@@ -312,22 +342,24 @@ fn branching(
     n: Next,
     t: Seen,
 ) -> Next
-    requires { ⌜ Sees (now s) (n .at) t ⌝ }
+    requires { ⌜ Ready (now c) (now s) (now begins) (now ends) count × Sees (now s) (n .at) t ⌝ }
     ensures { λ r. ⌜ Emits (IfeqHere place) (instruction-emitted place i) (now (s .entry)) (table-of (now (s .entry)) (now (begins .entry)) (now (ends .entry)) count) n (now (p .entry)) (now (p .exit)) r ⌝ }
 {
     let m = emit_steps::go_to(n, t.end);
-    let u = operand(s, begins, ends, count, p, place, m);
-    let v = operand(s, begins, ends, count, p, place, u);
+    let u = operand(c, s, begins, ends, hints, count, p, place, m);
+    let v = operand(c, s, begins, ends, hints, count, p, place, u);
     let e = InstructionEntry::Ifeq(m.expressions, u.expressions, v.expressions);
     table_updates::set_instruction(p, i, e);
-    operand(s, begins, ends, count, p, place, v)
+    operand(c, s, begins, ends, hints, count, p, place, v)
 }
 
 // path `:=` expression; the first token is t.
 fn assigning(
+    c: &[u64; 16384],
     s: &[u8],
     begins: &[usize],
     ends: &[usize],
+    hints: &[u8; 1024],
     count: u32,
     p: &mut [u32],
     place: Place,
@@ -335,18 +367,20 @@ fn assigning(
     n: Next,
     t: Seen,
 ) -> Next
-    requires { ⌜ Sees (now s) (n .at) t ⌝ }
+    requires { ⌜ Ready (now c) (now s) (now begins) (now ends) count × Sees (now s) (n .at) t ⌝ }
     ensures { λ r. ⌜ Emits (AssignHere place) (instruction-emitted place i) (now (s .entry)) (table-of (now (s .entry)) (now (begins .entry)) (now (ends .entry)) count) n (now (p .entry)) (now (p .exit)) r ⌝ }
 {
-    let u = emit_leaves::assign_target(s, begins, ends, count, p, place, i, n, t);
-    right(s, begins, ends, count, p, place, place, u)
+    let u = emit_leaves::assign_target(c, s, begins, ends, hints, count, p, place, i, n, t);
+    right(c, s, begins, ends, hints, count, p, place, place, u)
 }
 
 // An instruction as instruction i; its first token is t.
 fn instruction(
+    c: &[u64; 16384],
     s: &[u8],
     begins: &[usize],
     ends: &[usize],
+    hints: &[u8; 1024],
     count: u32,
     p: &mut [u32],
     place: Place,
@@ -354,53 +388,57 @@ fn instruction(
     n: Next,
     t: Seen,
 ) -> Next
-    requires { ⌜ Sees (now s) (n .at) t ⌝ }
+    requires { ⌜ Ready (now c) (now s) (now begins) (now ends) count × Sees (now s) (n .at) t ⌝ }
     ensures { λ r. ⌜ Emits (InstructionHere place) (instruction-emitted place i) (now (s .entry)) (table-of (now (s .entry)) (now (begins .entry)) (now (ends .entry)) count) n (now (p .entry)) (now (p .exit)) r ⌝ }
 {
     if t.kind == 2 {
-        return showing(s, begins, ends, count, p, place, i, n, t);
+        return showing(c, s, begins, ends, hints, count, p, place, i, n, t);
     }
     if t.kind == 3 {
-        return jumping(s, begins, ends, count, p, place, i, n, t);
+        return jumping(c, s, begins, ends, hints, count, p, place, i, n, t);
     }
     if t.kind == 4 {
-        return branching(s, begins, ends, count, p, place, i, n, t);
+        return branching(c, s, begins, ends, hints, count, p, place, i, n, t);
     }
-    assigning(s, begins, ends, count, p, place, i, n, t)
+    assigning(c, s, begins, ends, hints, count, p, place, i, n, t)
 }
 
 // One instruction with its `;`; its first token is t.
 fn line(
+    c: &[u64; 16384],
     s: &[u8],
     begins: &[usize],
     ends: &[usize],
+    hints: &[u8; 1024],
     count: u32,
     p: &mut [u32],
     place: Place,
     n: Next,
     t: Seen,
 ) -> Stand
-    requires { ⌜ Sees (now s) (n .at) t ⌝ }
+    requires { ⌜ Ready (now c) (now s) (now begins) (now ends) count × Sees (now s) (n .at) t ⌝ }
     ensures { λ r. ⌜ Stands (now (s .entry)) (LineEmits place (now (s .entry)) (table-of (now (s .entry)) (now (begins .entry)) (now (ends .entry)) count) n (now (p .entry)) (now (p .exit))) r ⌝ }
 {
     let i = n.instructions;
     let m = emit_steps::one_instruction(n);
-    let u = instruction(s, begins, ends, count, p, place, i, m, t);
-    emit_leaves::close_line(s, p, i, u)
+    let u = instruction(c, s, begins, ends, hints, count, p, place, i, m, t);
+    emit_leaves::close_line(c, s, p, i, u)
 }
 
 // Instructions, each closed by `;`, up to `}`; the first token is `first`.
 fn instructions(
+    c: &[u64; 16384],
     s: &[u8],
     begins: &[usize],
     ends: &[usize],
+    hints: &[u8; 1024],
     count: u32,
     p: &mut [u32],
     place: Place,
     n: Next,
     first: Seen,
 ) -> Next
-    requires { ⌜ Sees (now s) (n .at) first ⌝ }
+    requires { ⌜ Ready (now c) (now s) (now begins) (now ends) count × Sees (now s) (n .at) first ⌝ }
     ensures { λ r. ⌜ Emits (CodeHere place) (code-emitted place) (now (s .entry)) (table-of (now (s .entry)) (now (begins .entry)) (now (ends .entry)) count) n (now (p .entry)) (now (p .exit)) r ⌝ }
 {
     let mut m = n;
@@ -410,7 +448,7 @@ fn instructions(
             return m;
         }
         let at = m.at;
-        let r = line(s, begins, ends, count, p, place, m, t);
+        let r = line(c, s, begins, ends, hints, count, p, place, m, t);
         m = r.next;
         t = r.seen;
         if m.at <= at {
@@ -423,10 +461,19 @@ fn instructions(
 // ---- The tree
 
 // The slots of the program frame: the numbers after the tree.
-pub fn emit_tree(s: &[u8], begins: &[usize], ends: &[usize], count: u32, p: &mut [u32]) -> Next
+pub fn emit_tree(
+    c: &[u64; 16384],
+    s: &[u8],
+    begins: &[usize],
+    ends: &[usize],
+    hints: &[u8; 1024],
+    count: u32,
+    p: &mut [u32],
+) -> Next
+    requires { ⌜ Ready (now c) (now s) (now begins) (now ends) count ⌝ }
     ensures { λ r. ⌜ TreeEmitted (now (s .entry)) (now (begins .entry)) (now (ends .entry)) count (now (p .entry)) (now (p .exit)) r ⌝ }
 {
-    let q = emit_steps::pass_frame(s, 0);
+    let q = emit_steps::pass_frame(c, s, 0);
     let place = Place {
         in_code: false,
         depth: 0,
@@ -440,16 +487,17 @@ pub fn emit_tree(s: &[u8], begins: &[usize], ends: &[usize], count: u32, p: &mut
         strings: 0,
         codes: 0,
     };
-    let first = grammar::look(s, q);
-    slots(s, begins, ends, count, p, place, n, first)
+    let first = grammar::look(c, s, q);
+    slots(c, s, begins, ends, hints, count, p, place, n, first)
 }
 
 // The place of the first slot of the program frame.
-pub fn first_slot_place(s: &[u8]) -> u32
+pub fn first_slot_place(c: &[u64; 16384], s: &[u8]) -> u32
+    requires { ⌜ Cached (now c) (now s) ⌝ }
     ensures { λ r. ⌜ FirstSlot (now (s .entry)) r ⌝ }
 {
-    let q = emit_steps::pass_frame(s, 0);
-    let k = grammar::kind_at(s, q);
+    let q = emit_steps::pass_frame(c, s, 0);
+    let k = grammar::kind_at(c, s, q);
     if k == 25 {
         return 1;
     }

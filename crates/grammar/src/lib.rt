@@ -1,5 +1,6 @@
 // The grammar: functions over a source and a position that call each other in a cycle; the unread source length falls.
 ghost use Rattle.framed.specs.Parse.{a-base, a-path, an-expression, slots, an-instruction, instructions, names};
+ghost use Rattle.token_cache.specs.Cache.{Cached};
 ghost use Rattle.grammar.specs.Runs.{Meets, MeetsAll, Reads, ReadsOn, Passes, Expects, KindAt, KindsOk, Sees, OneFrame};
 ghost use Rattle.grammar.specs.Readers as R;
 use token::TokenRead;
@@ -11,11 +12,11 @@ pub enum Found {
 }
 
 // One token whose kind is lo to hi.
-pub fn expect(s: &[u8], at: usize, lo: u32, hi: u32) -> Found
-    requires { ⌜ KindsOk lo hi ⌝ }
+pub fn expect(c: &[u64; 16384], s: &[u8], at: usize, lo: u32, hi: u32) -> Found
+    requires { ⌜ Cached (now c) (now s) × KindsOk lo hi ⌝ }
     ensures { λ r. ⌜ Expects (now (s .entry)) lo hi at r ⌝ }
 {
-    let t = token::token_at(s, at);
+    let t = token_cache::token_in(c, s, at);
     let TokenRead::Token(k, a, p, w) = t else {
         return Found::Refused;
     };
@@ -29,10 +30,11 @@ pub fn expect(s: &[u8], at: usize, lo: u32, hi: u32) -> Found
 }
 
 // The kind of the token, 29 where there is none.
-pub fn kind_at(s: &[u8], at: usize) -> u32
+pub fn kind_at(c: &[u64; 16384], s: &[u8], at: usize) -> u32
+    requires { ⌜ Cached (now c) (now s) ⌝ }
     ensures { λ r. ⌜ KindAt (now (s .entry)) at r ⌝ }
 {
-    let t = token::token_at(s, at);
+    let t = token_cache::token_in(c, s, at);
     let TokenRead::Token(k, a, p, w) = t else {
         return 29;
     };
@@ -47,10 +49,11 @@ pub struct Seen {
     pub end: usize,
 }
 
-pub fn look(s: &[u8], at: usize) -> Seen
+pub fn look(c: &[u64; 16384], s: &[u8], at: usize) -> Seen
+    requires { ⌜ Cached (now c) (now s) ⌝ }
     ensures { λ r. ⌜ Sees (now (s .entry)) at r ⌝ }
 {
-    let t = token::token_at(s, at);
+    let t = token_cache::token_in(c, s, at);
     let TokenRead::Token(k, a, p, w) = t else {
         return Seen {
             kind: 29,
@@ -67,33 +70,36 @@ pub fn look(s: &[u8], at: usize) -> Seen
     }
 }
 
-fn dot_name(s: &[u8], at: usize) -> Found
+fn dot_name(c: &[u64; 16384], s: &[u8], at: usize) -> Found
+    requires { ⌜ Cached (now c) (now s) ⌝ }
     ensures { λ r. ⌜ ReadsOn R.dot-name (now (s .entry)) at r ⌝ }
 {
-    let x = expect(s, at, 7, 7);
+    let x = expect(c, s, at, 7, 7);
     let Found::Done(p) = x else {
         return Found::Refused;
     };
-    expect(s, p, 25, 25)
+    expect(c, s, p, 25, 25)
 }
 
-fn dot_up(s: &[u8], at: usize) -> Found
+fn dot_up(c: &[u64; 16384], s: &[u8], at: usize) -> Found
+    requires { ⌜ Cached (now c) (now s) ⌝ }
     ensures { λ r. ⌜ ReadsOn R.dot-up (now (s .entry)) at r ⌝ }
 {
-    let x = expect(s, at, 7, 7);
+    let x = expect(c, s, at, 7, 7);
     let Found::Done(p) = x else {
         return Found::Refused;
     };
-    expect(s, p, 8, 8)
+    expect(c, s, p, 8, 8)
 }
 
 // Any number of dot and name: the position after them.
-fn names(s: &[u8], at: usize) -> usize
+fn names(c: &[u64; 16384], s: &[u8], at: usize) -> usize
+    requires { ⌜ Cached (now c) (now s) ⌝ }
     ensures { λ r. ⌜ Passes names (now (s .entry)) at r ⌝ }
 {
     let mut i = at;
     while i < s.len() {
-        let x = dot_name(s, i);
+        let x = dot_name(c, s, i);
         let Found::Done(p) = x else {
             return i;
         };
@@ -103,12 +109,13 @@ fn names(s: &[u8], at: usize) -> usize
 }
 
 // Further `^`, each after a dot.
-fn ups(s: &[u8], at: usize) -> usize
+fn ups(c: &[u64; 16384], s: &[u8], at: usize) -> usize
+    requires { ⌜ Cached (now c) (now s) ⌝ }
     ensures { λ r. ⌜ Passes R.more-ups (now (s .entry)) at r ⌝ }
 {
     let mut i = at;
     while i < s.len() {
-        let x = dot_up(s, i);
+        let x = dot_up(c, s, i);
         let Found::Done(p) = x else {
             return i;
         };
@@ -118,59 +125,61 @@ fn ups(s: &[u8], at: usize) -> usize
 }
 
 // A path whose first token is t.
-fn path_from(s: &[u8], at: usize, t: Seen) -> Found
-    requires { ⌜ Sees (now s) at t ⌝ }
+fn path_from(c: &[u64; 16384], s: &[u8], at: usize, t: Seen) -> Found
+    requires { ⌜ Cached (now c) (now s) × Sees (now s) at t ⌝ }
     ensures { λ r. ⌜ Reads a-path (now (s .entry)) at r ⌝ }
 {
     if t.kind == 1 {
-        let q = names(s, t.end);
+        let q = names(c, s, t.end);
         return Found::Done(q);
     }
     if t.kind == 8 {
-        let q = ups(s, t.end);
-        let u = names(s, q);
+        let q = ups(c, s, t.end);
+        let u = names(c, s, q);
         return Found::Done(u);
     }
     Found::Refused
 }
 
 // A path.
-fn path(s: &[u8], at: usize) -> Found
+fn path(c: &[u64; 16384], s: &[u8], at: usize) -> Found
+    requires { ⌜ Cached (now c) (now s) ⌝ }
     ensures { λ r. ⌜ Reads a-path (now (s .entry)) at r ⌝ }
 {
-    let t = look(s, at);
-    path_from(s, at, t)
+    let t = look(c, s, at);
+    path_from(c, s, at, t)
 }
 
 // `code` `{` instructions `}`
-fn block(s: &[u8], at: usize) -> Found
+fn block(c: &[u64; 16384], s: &[u8], at: usize) -> Found
+    requires { ⌜ Cached (now c) (now s) ⌝ }
     ensures { λ r. ⌜ Meets R.block 0 (now (s .entry)) at r ⌝ }
 {
-    let x = expect(s, at, 28, 28);
+    let x = expect(c, s, at, 28, 28);
     let Found::Done(p) = x else {
         return Found::Refused;
     };
-    let y = expect(s, p, 14, 14);
+    let y = expect(c, s, p, 14, 14);
     let Found::Done(q) = y else {
         return Found::Refused;
     };
-    let z = instructions(s, q);
+    let z = instructions(c, s, q);
     let Found::Done(u) = z else {
         return Found::Refused;
     };
-    expect(s, u, 15, 15)
+    expect(c, s, u, 15, 15)
 }
 
 // A base whose first token is t: integer, string, path or code.
-pub fn base_from(s: &[u8], at: usize, t: Seen) -> Found
-    requires { ⌜ Sees (now s) at t ⌝ }
+pub fn base_from(c: &[u64; 16384], s: &[u8], at: usize, t: Seen) -> Found
+    requires { ⌜ Cached (now c) (now s) × Sees (now s) at t ⌝ }
     ensures { λ r. ⌜ Meets a-base 1 (now (s .entry)) at r ⌝ }
 {
     if t.kind == 28 {
-        return block(s, at);
+        return block(c, s, at);
     }
     if t.kind < 26 {
-        return path_from(s, at, t);
+        return path_from(c, s, at, t);
     }
     if t.kind < 28 {
         return Found::Done(t.end);
@@ -179,33 +188,36 @@ pub fn base_from(s: &[u8], at: usize, t: Seen) -> Found
 }
 
 // A base.
-fn base(s: &[u8], at: usize) -> Found
+fn base(c: &[u64; 16384], s: &[u8], at: usize) -> Found
+    requires { ⌜ Cached (now c) (now s) ⌝ }
     ensures { λ r. ⌜ Meets a-base 1 (now (s .entry)) at r ⌝ }
 {
-    let t = look(s, at);
-    base_from(s, at, t)
+    let t = look(c, s, at);
+    base_from(c, s, at, t)
 }
 
 // `!` base
-fn negation(s: &[u8], at: usize) -> Found
+fn negation(c: &[u64; 16384], s: &[u8], at: usize) -> Found
+    requires { ⌜ Cached (now c) (now s) ⌝ }
     ensures { λ r. ⌜ Meets R.negation 0 (now (s .entry)) at r ⌝ }
 {
-    let x = expect(s, at, 9, 9);
+    let x = expect(c, s, at, 9, 9);
     let Found::Done(p) = x else {
         return Found::Refused;
     };
-    base(s, p)
+    base(c, s, p)
 }
 
 // Operator and base, or nothing.
-fn operation(s: &[u8], at: usize) -> Found
+fn operation(c: &[u64; 16384], s: &[u8], at: usize) -> Found
+    requires { ⌜ Cached (now c) (now s) ⌝ }
     ensures { λ r. ⌜ MeetsAll R.operation 0 (now (s .entry)) at r ⌝ }
 {
-    let x = expect(s, at, 16, 24);
+    let x = expect(c, s, at, 16, 24);
     let Found::Done(p) = x else {
         return Found::Done(at);
     };
-    let y = base(s, p);
+    let y = base(c, s, p);
     let Found::Done(q) = y else {
         return Found::Done(at);
     };
@@ -213,72 +225,76 @@ fn operation(s: &[u8], at: usize) -> Found
 }
 
 // A base, or base operator base.
-fn binary(s: &[u8], at: usize) -> Found
+fn binary(c: &[u64; 16384], s: &[u8], at: usize) -> Found
+    requires { ⌜ Cached (now c) (now s) ⌝ }
     ensures { λ r. ⌜ Meets R.binary 2 (now (s .entry)) at r ⌝ }
 {
-    let x = base(s, at);
+    let x = base(c, s, at);
     let Found::Done(p) = x else {
         return Found::Refused;
     };
-    operation(s, p)
+    operation(c, s, p)
 }
 
 // `frame` `:` `[` slots `]`
-fn frame(s: &[u8], at: usize) -> Found
+fn frame(c: &[u64; 16384], s: &[u8], at: usize) -> Found
+    requires { ⌜ Cached (now c) (now s) ⌝ }
     ensures { λ r. ⌜ Meets R.frame 0 (now (s .entry)) at r ⌝ }
 {
-    let x = expect(s, at, 0, 0);
+    let x = expect(c, s, at, 0, 0);
     let Found::Done(p) = x else {
         return Found::Refused;
     };
-    let y = expect(s, p, 5, 5);
+    let y = expect(c, s, p, 5, 5);
     let Found::Done(q) = y else {
         return Found::Refused;
     };
-    let z = expect(s, q, 12, 12);
+    let z = expect(c, s, q, 12, 12);
     let Found::Done(u) = z else {
         return Found::Refused;
     };
-    let w = slots(s, u);
+    let w = slots(c, s, u);
     let Found::Done(v) = w else {
         return Found::Refused;
     };
-    expect(s, v, 13, 13)
+    expect(c, s, v, 13, 13)
 }
 
 // An expression.
-fn expression(s: &[u8], at: usize) -> Found
+fn expression(c: &[u64; 16384], s: &[u8], at: usize) -> Found
+    requires { ⌜ Cached (now c) (now s) ⌝ }
     ensures { λ r. ⌜ Meets an-expression 3 (now (s .entry)) at r ⌝ }
 {
-    let k = kind_at(s, at);
+    let k = kind_at(c, s, at);
     if k == 0 {
-        return frame(s, at);
+        return frame(c, s, at);
     }
     if k == 9 {
-        return negation(s, at);
+        return negation(c, s, at);
     }
-    binary(s, at)
+    binary(c, s, at)
 }
 
 // Slots, parted by commas.
-fn slots(s: &[u8], at: usize) -> Found
+fn slots(c: &[u64; 16384], s: &[u8], at: usize) -> Found
+    requires { ⌜ Cached (now c) (now s) ⌝ }
     ensures { λ r. ⌜ Meets slots 0 (now (s .entry)) at r ⌝ }
 {
     let mut i = at;
     while i < s.len() {
-        let x = expect(s, i, 25, 25);
+        let x = expect(c, s, i, 25, 25);
         let Found::Done(p) = x else {
             return Found::Done(i);
         };
-        let y = expect(s, p, 6, 6);
+        let y = expect(c, s, p, 6, 6);
         let Found::Done(q) = y else {
             return Found::Done(i);
         };
-        let z = expression(s, q);
+        let z = expression(c, s, q);
         let Found::Done(u) = z else {
             return Found::Done(i);
         };
-        let w = expect(s, u, 11, 11);
+        let w = expect(c, s, u, 11, 11);
         let Found::Done(v) = w else {
             return Found::Done(u);
         };
@@ -288,93 +304,99 @@ fn slots(s: &[u8], at: usize) -> Found
 }
 
 // `show` base
-fn showing(s: &[u8], at: usize) -> Found
+fn showing(c: &[u64; 16384], s: &[u8], at: usize) -> Found
+    requires { ⌜ Cached (now c) (now s) ⌝ }
     ensures { λ r. ⌜ Meets R.showing 0 (now (s .entry)) at r ⌝ }
 {
-    let x = expect(s, at, 2, 2);
+    let x = expect(c, s, at, 2, 2);
     let Found::Done(p) = x else {
         return Found::Refused;
     };
-    base(s, p)
+    base(c, s, p)
 }
 
 // `jump` base base
-fn jumping(s: &[u8], at: usize) -> Found
+fn jumping(c: &[u64; 16384], s: &[u8], at: usize) -> Found
+    requires { ⌜ Cached (now c) (now s) ⌝ }
     ensures { λ r. ⌜ Meets R.jumping 0 (now (s .entry)) at r ⌝ }
 {
-    let x = expect(s, at, 3, 3);
+    let x = expect(c, s, at, 3, 3);
     let Found::Done(p) = x else {
         return Found::Refused;
     };
-    let y = base(s, p);
+    let y = base(c, s, p);
     let Found::Done(q) = y else {
         return Found::Refused;
     };
-    base(s, q)
+    base(c, s, q)
 }
 
 // `ifeq` base base base
-fn branching(s: &[u8], at: usize) -> Found
+fn branching(c: &[u64; 16384], s: &[u8], at: usize) -> Found
+    requires { ⌜ Cached (now c) (now s) ⌝ }
     ensures { λ r. ⌜ Meets R.branching 0 (now (s .entry)) at r ⌝ }
 {
-    let x = expect(s, at, 4, 4);
+    let x = expect(c, s, at, 4, 4);
     let Found::Done(p) = x else {
         return Found::Refused;
     };
-    let y = base(s, p);
+    let y = base(c, s, p);
     let Found::Done(q) = y else {
         return Found::Refused;
     };
-    let z = base(s, q);
+    let z = base(c, s, q);
     let Found::Done(u) = z else {
         return Found::Refused;
     };
-    base(s, u)
+    base(c, s, u)
 }
 
 // path `:=` expression
-fn assigning(s: &[u8], at: usize) -> Found
+fn assigning(c: &[u64; 16384], s: &[u8], at: usize) -> Found
+    requires { ⌜ Cached (now c) (now s) ⌝ }
     ensures { λ r. ⌜ Meets R.assigning 0 (now (s .entry)) at r ⌝ }
 {
-    let x = path(s, at);
+    let x = path(c, s, at);
     let Found::Done(p) = x else {
         return Found::Refused;
     };
-    let y = expect(s, p, 6, 6);
+    let y = expect(c, s, p, 6, 6);
     let Found::Done(q) = y else {
         return Found::Refused;
     };
-    expression(s, q)
+    expression(c, s, q)
 }
 
 // An instruction.
-fn instruction(s: &[u8], at: usize) -> Found
+fn instruction(c: &[u64; 16384], s: &[u8], at: usize) -> Found
+    requires { ⌜ Cached (now c) (now s) ⌝ }
     ensures { λ r. ⌜ Meets an-instruction 1 (now (s .entry)) at r ⌝ }
 {
-    let k = kind_at(s, at);
+    let k = kind_at(c, s, at);
     if k == 2 {
-        return showing(s, at);
+        return showing(c, s, at);
     }
     if k == 3 {
-        return jumping(s, at);
+        return jumping(c, s, at);
     }
     if k == 4 {
-        return branching(s, at);
+        return branching(c, s, at);
     }
-    assigning(s, at)
+    assigning(c, s, at)
 }
 
 // Instructions, each closed by `;`.
-fn instructions(s: &[u8], at: usize) -> Found
+fn instructions(c: &[u64; 16384], s: &[u8], at: usize) -> Found
+    requires { ⌜ Cached (now c) (now s) ⌝ }
     ensures { λ r. ⌜ Meets instructions 2 (now (s .entry)) at r ⌝ }
 {
     let mut i = at;
     while i < s.len() {
-        let x = instruction(s, i);
+        let x = instruction(c, s, i);
         let Found::Done(p) = x else {
             return Found::Done(i);
         };
-        let y = expect(s, p, 10, 10);
+        let y = expect(c, s, p, 10, 10);
         let Found::Done(q) = y else {
             return Found::Done(i);
         };
@@ -384,13 +406,14 @@ fn instructions(s: &[u8], at: usize) -> Found
 }
 
 // The whole source is one frame.
-pub fn one_frame(s: &[u8]) -> bool
+pub fn one_frame(c: &[u64; 16384], s: &[u8]) -> bool
+    requires { ⌜ Cached (now c) (now s) ⌝ }
     ensures { λ r. ⌜ OneFrame (now (s .entry)) r ⌝ }
 {
-    let x = frame(s, 0);
+    let x = frame(c, s, 0);
     let Found::Done(p) = x else {
         return false;
     };
-    let k = kind_at(s, p);
+    let k = kind_at(c, s, p);
     k == 29
 }

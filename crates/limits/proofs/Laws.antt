@@ -20,8 +20,7 @@ use Rattle.sweep.specs.Decides.{Decides}
 use Rattle.sums.specs.Weights.{whole-sum, Sums}
 use Rattle.sums.proofs.Trees.{tree-sum}
 use Rattle.sums.proofs.Counted.{expressions, instructions, strings, codes, frames, marks, path-name-total, far-ups}
-use Rattle.names.specs.Kept.{ManyNames}
-use Rattle.limits.specs.Limits.{misplaced-tree, path-names-tree, limit-tree, far-tree, frames-tree}
+use Rattle.limits.specs.Limits.{CountsNames, misplaced-tree, path-names-tree, limit-tree, far-tree, frames-tree}
 
 -- ---- The tree of a source
 
@@ -73,14 +72,14 @@ module _ (s : List ℕ) (n less : ℕ) (m : Sums s 6 n) (l : Sums s 7 less) wher
 
 -- ---- Number 9
 
-module _ (s : List ℕ) (a : Bool) (ma : ManyNames s a) where
-  pub limit-1 : a ≡ true → Decides limit-tree s true
+module _ (s : List ℕ) (a : ℕ) (ma : CountsNames s a) where
+  pub limit-1 : 128 < a → Decides limit-tree s true
   unfolding limit-tree above-limit
-  limit-1 ta = record { is = λ ts ss e f. rw (sym (ma .is ts e) ∙ ta) }
+  limit-1 ta = record { is = λ ts ss e f. rw (sym (ma .is ts e) ∙ lt-ltb 128 a ta) }
 
-  module _ (fa : a ≡ false) (b : ℕ) (mb : Sums s 1 b) where
+  module _ (fa : a ≤ 128) (b : ℕ) (mb : Sums s 1 b) where
     no-names : (ts : List Token) → tokens class s ≡ some ts → ltb 128 (length (name-table ts)) ≡ false
-    no-names ts e = sym (ma .is ts e) ∙ fa
+    no-names ts e = sym (ma .is ts e) ∙ le-ltb 128 a fa
 
     b-is : (t : Bool) → ltb 512 b ≡ t → (ts : List Token) (ss : Slots Written) → tokens class s ≡ some ts → parse (symbols ts) ≡ some ss → ltb 512 (count (is-one instruction) (pieces ss)) ≡ t
     b-is t h ts ss e f = ap (ltb 512) (sym (mb .is ts e ∙ instructions-are ts ss f)) ∙ h

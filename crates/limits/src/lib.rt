@@ -1,7 +1,7 @@
-// Numbers 7, 9, 10 and 12: what stands outside code, and the counts against their limits. Each is given the sums over the source's tokens.
+// Numbers 7, 9, 10 and 12: what stands outside code, and the counts against their limits. Each is given the sums over the source's tokens, and 9 the number of its names.
 ghost use Rattle.sweep.specs.Decides.{Decides};
 ghost use Rattle.sums.specs.Totals.{Totalled};
-ghost use Rattle.limits.specs.Limits.{misplaced-tree, path-names-tree, limit-tree, far-tree, frames-tree};
+ghost use Rattle.limits.specs.Limits.{CountsNames, misplaced-tree, path-names-tree, limit-tree, far-tree, frames-tree};
 use sums::Totals;
 
 // A path, an operator or `!` is outside code (number 7).
@@ -24,11 +24,12 @@ fn many_path_names(s: &[u8], t: Totals) -> bool
 }
 
 // A count is above its limit (number 9).
-pub fn above_limit(s: &[u8], t: Totals) -> bool
-    requires { ⌜ Totalled (now s) t ⌝ }
+pub fn above_limit(s: &[u8], t: Totals, names: u32) -> bool
+    requires totalled { ⌜ Totalled (now s) t ⌝ }
+    requires counted { ⌜ CountsNames (now s) names ⌝ }
     ensures { λ r. ⌜ Decides limit-tree (now (s .entry)) r ⌝ }
 {
-    if names::many_names(s) {
+    if 128 < names {
         return true;
     }
     if 512 < t.instructions {

@@ -19,6 +19,7 @@ use Rattle.shapes.proofs.Accepted.{accepted-shaped}
 use Rattle.emission.specs.Emit.{cleared, program-words, literal-bytes}
 use Rattle.emission_tree.proofs.Whole.{program-at}
 use Rattle.emission_accepted.proofs.Kept.{accepted-kept}
+use Rattle.names.specs.Kept.{Kept}
 use Rattle.check_source.specs.Numbers as check
 use Rattle.accepted.specs.Accepted.{Accepted}
 use Rattle.accepted.proofs.Accepted.{accepted-sources}
@@ -60,6 +61,10 @@ module _ (m : Memories) (source : List ℕ) (F T : ℕ) (q : Program) (re : refu
         at-start = start-held .alike;
         no-renaming = start-held .no-renaming;
       }
+
+-- the names of a source that loads are kept
+pub loaded-kept : (r : LoadAnswer) (source b e : List ℕ) (n : ℕ) → check.KeptAt (load-number r) source b e n → r ≡ LoadAnswer.Loaded → Kept source b e n
+loaded-kept r source b e n k q = k .is (ap load-number q)
 
 -- ---- install
 

@@ -1,14 +1,31 @@
 // The public call load. It checks first and writes nothing lent where it refuses; else all four memories are cleared and written.
 use framed::LoadAnswer;
 ghost use mathlib.Core.Path.{_≡_};
+ghost use Rattle.token_cache.specs.Cache.{Cached};
+ghost use Rattle.names.specs.Kept.{Kept};
 ghost use Rattle.load.specs.Load.{memories, loading, load-call, LoadMeans, CanInstall, Installed};
 
-// The memories of an accepted source: program words p, heap words h, literal bytes l, text bytes x.
-fn install(source: &[u8], f: u32, t: u32, p: &mut [u32], h: &mut [u32], l: &mut [u8], x: &mut [u8])
-    requires { ⌜ CanInstall (memories (now p) (now h) (now l) (now x)) (now source) f t ⌝ }
+// The memories of an accepted source, whose names are kept: program words p, heap words h, literal bytes l, text bytes x.
+fn install(
+    c: &[u64; 16384],
+    source: &[u8],
+    begins: &[usize],
+    ends: &[usize],
+    hints: &[u8; 1024],
+    count: u32,
+    f: u32,
+    t: u32,
+    p: &mut [u32],
+    h: &mut [u32],
+    l: &mut [u8],
+    x: &mut [u8],
+)
+    requires cached { ⌜ Cached (now c) (now source) ⌝ }
+    requires kept { ⌜ Kept (now source) (now begins) (now ends) count ⌝ }
+    requires can { ⌜ CanInstall (memories (now p) (now h) (now l) (now x)) (now source) f t ⌝ }
     ensures { λ _. ⌜ Installed (now (source .entry)) f t (memories (now (p .exit)) (now (h .exit)) (now (l .exit)) (now (x .exit))) ⌝ }
 {
-    emit_program::emit(source, f, t, p, l);
+    emit_program::emit(c, source, begins, ends, hints, count, f, t, p, l);
     clearing::clear_words(h);
     clearing::clear_bytes(x);
     start_state::start(p, l, h, x);
@@ -26,10 +43,28 @@ pub fn load(
     ensures exact { λ r. ⌜ load-call (memories (now (p .entry)) (now (h .entry)) (now (l .entry)) (now (x .entry))) (now (source .entry)) f t ≡ loading r (memories (now (p .exit)) (now (h .exit)) (now (l .exit)) (now (x .exit))) ⌝ }
     ensures meaning { λ r. ⌜ LoadMeans (memories (now (p .entry)) (now (h .entry)) (now (l .entry)) (now (x .entry))) (now (source .entry)) f t r (memories (now (p .exit)) (now (h .exit)) (now (l .exit)) (now (x .exit))) ⌝ }
 {
-    let answer = check_source::check(p.len(), h.len(), l.len(), x.len(), source, f, t);
+    let mut c = [0u64; 16384];
+    let mut begins = [0usize; 129];
+    let mut ends = [0usize; 129];
+    let mut hints = [0u8; 1024];
+    let mut count = 0u32;
+    let answer = check_source::check(
+        p.len(),
+        h.len(),
+        l.len(),
+        x.len(),
+        &mut c,
+        source,
+        &mut begins,
+        &mut ends,
+        &mut hints,
+        &mut count,
+        f,
+        t,
+    );
     let LoadAnswer::Loaded = answer else {
         return answer;
     };
-    install(source, f, t, p, h, l, x);
+    install(&c, source, &begins, &ends, &hints, count, f, t, p, h, l, x);
     LoadAnswer::Loaded
 }

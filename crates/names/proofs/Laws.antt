@@ -1,27 +1,36 @@
--- Laws of the names kept, and of the loop that counts the distinct ones. Assumes nothing.
+-- Laws of the names kept: whether a name is known, hints, the number of a name, and the loop that keeps them. Assumes nothing.
 use mathlib.Core.Path.{_≡_, refl, sym, ap, _∙_}
 use mathlib.Core.Bool.{Bool, true, false, _&&_, _||_, not, true≢false, false≢true}
 use mathlib.Core.List.{List, [], _∷_, _++_}
-use Prim.Native.Nat.{ℕ, zero, suc, _+_, _-_, _<_, _≤_}
+use mathlib.Core.Option.{some}
+use Prim.Native.Nat.{ℕ, zero, suc, _+_, _-_, _*_, _%_, _<_, _≤_}
 use native.Mathlib.Numerals.{add-one}
 use native.Mathlib.Omega.{arith}
+use native.Mathlib.Nat.{mod-lt}
+use native.Mathlib.Decide.{ℕ-discrete, decLt}
 use lib.Dec.{eqb, ltb}
-use lib.ListN.{length, length-append}
-use borrow.Author.Tests.{ne-eqb, lt-ltb, le-ltb, eqb-true, eqb-false}
+use lib.ListN.{length, length-append, drop, getD, set, drop-of-length-le}
+use lib.Seq.{drop-cons}
+use types.Run.{OneOf, miss}
+use denote.Enum.Declared.{tagOf}
+use borrow.Author.Tests.{eq-eqb, ne-eqb, lt-ltb, le-ltb, eqb-true, eqb-false}
 use Rattle.framed.specs.Common.{if_then_else_, any, same}
 use Rattle.framed.specs.Bytes.{class}
-use Rattle.framed.specs.Tokens.{Token}
-use Rattle.framed.specs.Symbols.{names-after, name-table}
+use Rattle.framed.specs.Tokens.{Token, tokens}
+use Rattle.framed.specs.Symbols.{names-after, name-table, number-in}
 use Rattle.source.specs.Positions.{rest, part}
 use Rattle.words.specs.Words.{word, set-word}
-use Rattle.words.proofs.Laws.{word-other, word-same, set-size}
+use Rattle.words.proofs.Laws.{word-other, word-same, set-size, set-past}
 use Rattle.token.specs.Reading.{token-of, token-kind, TokenAt, Spot}
 use Rattle.token.specs.declared.TokenRead.{TokenRead}
+use Rattle.token.proofs.TokenRead.{the-type}
 use Rattle.token.proofs.KindNumbers.{kind-is}
 use Rattle.token.proofs.Answers.{spot-of}
+use Rattle.shapes.proofs.Names.{same-equal, same-self}
 use Rattle.sweep.proofs.Lists.{or-false, or-true, any-last}
-use Rattle.sweep.proofs.Loop.{Going, Gives, go-start, go-end, go-none, go-done, go-again, go-early}
-use Rattle.names.specs.Kept.{table-of, is-new, Noted, NotHuge, ManyNames}
+use Rattle.sweep.proofs.Loop as Loop
+use Rattle.sweep.proofs.Loop.{Going, Gives, go-start, go-end, go-none, go-done, go-again}
+use Rattle.names.specs.Kept.{table-of, is-new, hash-from, hash-of, Marked, Few, Sized, Numbered, Noted, Kept}
 
 -- ---- The names kept
 
@@ -72,25 +81,235 @@ module _ (s b e : List ℕ) (n a p k : ℕ) (i : Searching s b e n a p k) (l : 0
   pub known-again : t ≡ false → Searching s b e n a p (k - 1)
   known-again d = record { rest-is = i .rest-is ∙ last-is ∙ ap (λ (u : Bool). any (same (part s a p)) (table-of s b e (k - 1)) || u) d ∙ or-false (any (same (part s a p)) (table-of s b e (k - 1))) }
 
--- ---- A new name
+-- name k is the name itself
+pub known-there : (s b e : List ℕ) (n a p k : ℕ) → k < n → (x y : ℕ) → x ≡ word b k → y ≡ word e k → (t : Bool) → t ≡ same (part s a p) (part s x y) → t ≡ true →
+    true ≡ any (same (part s a p)) (table-of s b e n)
+unfolding table-of
+known-there s b e zero a p k l x y ex ey t h d = absurd (omega arith)
+known-there s b e (suc n) a p k l x y ex ey t h d =
+    go (ℕ-discrete k n) (λ z. known-there s b e n a p k (less k n l z) x y ex ey t h d) ∙ sym (any-last (same (part s a p)) (table-of s b e n) (part s (word b n) (word e n)))
+  where
+    last : k ≡ n → same (part s a p) (part s (word b n) (word e n)) ≡ true
+    last z = ap (λ (j : ℕ). same (part s a p) (part s (word b j) (word e j))) (sym z) ∙ rw (← ex, ← ey) (sym h ∙ d)
 
-module _ (s b e : List ℕ) (n k a p : ℕ) where
-  pub new-other : (k ≡ 25 → ⊥) → false ≡ is-new s b e n k a p
+    less : (k n : ℕ) → k < suc n → (k ≡ n → ⊥) → k < n
+    less k n l z = omega arith
+
+    go : Dec (k ≡ n) → ((k ≡ n → ⊥) → true ≡ any (same (part s a p)) (table-of s b e n)) →
+        true ≡ (any (same (part s a p)) (table-of s b e n) || same (part s a p) (part s (word b n) (word e n)))
+    go (yes z) f = sym (ap (λ (u : Bool). any (same (part s a p)) (table-of s b e n) || u) (last z) ∙ or-true (any (same (part s a p)) (table-of s b e n)))
+    go (no z) f = rw (← f z)
+
+-- the same of numbers that are given by words
+pub recalled-there : (s b e : List ℕ) (n a p k : ℕ) → k < n → (i j x y : ℕ) → i ≡ k → x ≡ word b i → j ≡ k → y ≡ word e j → (t : Bool) → t ≡ same (part s a p) (part s x y) → t ≡ true →
+    true ≡ any (same (part s a p)) (table-of s b e n)
+recalled-there s b e n a p k l i j x y ei ex ej ey t h d = known-there s b e n a p k l x y (ex ∙ ap (word b) ei) (ey ∙ ap (word e) ej) t h d
+
+pub recalled-else : (s b e : List ℕ) (n m a p : ℕ) → m ≡ n → (t : Bool) → t ≡ any (same (part s a p)) (table-of s b e m) → t ≡ any (same (part s a p)) (table-of s b e n)
+recalled-else s b e n m a p em t h = h ∙ rw em
+
+-- ---- Hints
+
+hash-bound-from : (h : ℕ) (w : List ℕ) → hash-from h w < 1024
+unfolding hash-from
+hash-bound-from h [] = mod-lt h (omega arith)
+hash-bound-from h (b ∷ w) = hash-bound-from ((h * 37 + b) % 65536) w
+
+hash-bound : (w : List ℕ) → hash-of w < 1024
+unfolding hash-of
+hash-bound w = hash-bound-from 0 w
+
+-- the bytes from i on are still to be taken in
+pub record Hashing (w : List ℕ) (h i : ℕ) : Type 0 where
+  pub small : h < 65536
+  pub rest-is : hash-from h (drop i w) ≡ hash-of w
+
+pub hashing-start : (w : List ℕ) → Hashing w 0 0
+unfolding hash-of
+hashing-start w = record { small = omega arith; rest-is = refl }
+
+module _ (w : List ℕ) (h i : ℕ) (c : Hashing w h i) where
+  pub hashing-again : i < length w → (b : ℕ) → b ≡ word w i → Hashing w ((h * 37 + b) % 65536) (i + 1)
+  unfolding hash-from word
+  hashing-again l b eb = record {
+    small = mod-lt (h * 37 + b) (omega arith);
+    rest-is = rw (eb, add-one i) (sym (ap (hash-from h) (drop-cons w i 0 l)) ∙ c .rest-is);
+  }
+
+  pub hashing-done : length w ≤ i → (r : ℕ) → r ≡ h % 1024 → (v : List ℕ) → w ≡ v → r ≡ hash-of v
+  unfolding hash-from
+  hashing-done l r e v ev = e ∙ ap (hash-from h) (sym (drop-of-length-le w l)) ∙ c .rest-is ∙ ap hash-of ev
+
+pub hash-small : (h r : ℕ) → r ≡ h % 1024 → r < 1024
+hash-small h r e = rw e (mod-lt h (omega arith))
+
+pub hint-is : (hints w : List ℕ) (h g r : ℕ) → h ≡ hash-of w → g ≡ word hints h → r ≡ g → r ≡ word hints (hash-of w)
+hint-is hints w h g r eh eg er = er ∙ eg ∙ ap (word hints) eh
+
+pub hint-set : (hints w : List ℕ) (h n v : ℕ) → h ≡ hash-of w → v ≡ n + 1 → set hints h v ≡ set-word hints (hash-of w) (n + 1)
+unfolding set-word
+hint-set hints w h n v eh ev = rw (eh, ev)
+
+-- a name whose hash has no hint is none of those kept
+pub unknown : (s b e hints : List ℕ) (n a p : ℕ) → Marked s b e hints n → (g : ℕ) → g ≡ word hints (hash-of (part s a p)) → g ≡ 0 →
+    false ≡ any (same (part s a p)) (table-of s b e n)
+unfolding table-of any
+unknown s b e hints zero a p m g eg z = refl
+unknown s b e hints (suc n) a p m g eg z =
+    sym (any-last (same (part s a p)) (table-of s b e n) (part s (word b n) (word e n))
+    ∙ both (unknown s b e hints n a p (record { size = m .size; set = λ k l. m .set k (omega arith) }) g eg z) (same (part s a p) (part s (word b n) (word e n))) refl)
+  where
+    both : false ≡ any (same (part s a p)) (table-of s b e n) → (t : Bool) → same (part s a p) (part s (word b n) (word e n)) ≡ t → (any (same (part s a p)) (table-of s b e n) || t) ≡ false
+    both f true q = absurd (m .set n (omega arith) (ap (λ (w : List ℕ). word hints (hash-of w)) (sym (same-equal (part s a p) (part s (word b n) (word e n)) q)) ∙ sym eg ∙ z))
+    both f false q = rw (← f)
+
+-- a hint that is set stays set
+stays-set : (hints : List ℕ) (i v j : ℕ) → (v ≡ 0 → ⊥) → (word hints j ≡ 0 → ⊥) → (word (set-word hints i v) j ≡ 0 → ⊥)
+stays-set hints i v j nv h = go (ℕ-discrete j i) (decLt i (length hints))
+  where
+    go : Dec (j ≡ i) → Dec (i < length hints) → (word (set-word hints i v) j ≡ 0 → ⊥)
+    go (yes q) (yes l) z = nv (sym (word-same hints i v l) ∙ ap (word (set-word hints i v)) (sym q) ∙ z)
+    go (yes q) (no l) z = h (ap (λ (m : List ℕ). word m j) (set-past hints i v (omega arith)) ∙ z)
+    go (no q) d z = h (sym (word-other hints i j v (word hints j) q refl) ∙ z)
+
+-- a new name gets its hint
+module _ (s b e hints : List ℕ) (n a p : ℕ) (m : Marked s b e hints n) (hb : n < length b) (he : n < length e) where
+  marked-more : Marked s (set-word b n a) (set-word e n p) (set-word hints (hash-of (part s a p)) (n + 1)) (n + 1)
+  marked-more = record { size = set-size hints _ _ ∙ m .size; set = λ k l. go k l (decLt k n) }
+    where
+      more : (n : ℕ) → (n + 1 ≡ 0 → ⊥)
+      more n z = omega arith
+
+      less : (k n : ℕ) → k < n → (k ≡ n → ⊥)
+      less k n l q = omega arith
+
+      last : (k n : ℕ) → k < n + 1 → (k < n → ⊥) → k ≡ n
+      last k n l f = omega arith
+
+      inside : hash-of (part s a p) < length hints
+      inside = rw (m .size) (hash-bound (part s a p))
+
+      there : word (set-word hints (hash-of (part s a p)) (n + 1)) (hash-of (part s (word (set-word b n a) n) (word (set-word e n p) n))) ≡ n + 1
+      there = rw (word-same b n a hb, word-same e n p he) (word-same hints (hash-of (part s a p)) (n + 1) inside)
+
+      go : (k : ℕ) → k < n + 1 → Dec (k < n) → (word (set-word hints (hash-of (part s a p)) (n + 1)) (hash-of (part s (word (set-word b n a) k) (word (set-word e n p) k))) ≡ 0 → ⊥)
+      go k l (yes q) =
+          rw (word-other b n k a (word b k) (less k n q) refl, word-other e n k p (word e k) (less k n q) refl)
+          (stays-set hints (hash-of (part s a p)) (n + 1) (hash-of (part s (word b k) (word e k))) (more n) (m .set k q))
+      go k l (no q) = rw (last k n l q) (λ z. more n (sym there ∙ z))
+
+-- ---- The number of a name
+
+pub number-last : (vs : List (List ℕ)) (v w : List ℕ) → number-in vs w ≡ length vs → number-in (vs ++ (v ∷ [])) w ≡ (if same v w then length vs else suc (length vs))
+unfolding number-in
+number-last [] v w e = go (same v w)
+  where
+    go : (t : Bool) → _≡_ {A = ℕ} (elim t [ true ↦ 0 | false ↦ 1 ]) (if t then 0 else 1)
+    go true = refl
+    go false = refl
+number-last (u ∷ vs) v w e = go (same u w) e (number-last vs v w)
+  where
+    more : (t : Bool) (n : ℕ) → suc (if t then n else suc n) ≡ (if t then suc n else suc (suc n))
+    more true n = refl
+    more false n = refl
+
+    go : (t : Bool) → _≡_ {A = ℕ} (elim t [ true ↦ 0 | false ↦ suc (number-in vs w) ]) (suc (length vs)) →
+        (number-in vs w ≡ length vs → number-in (vs ++ (v ∷ [])) w ≡ (if same v w then length vs else suc (length vs))) →
+        _≡_ {A = ℕ} (elim t [ true ↦ 0 | false ↦ suc (number-in (vs ++ (v ∷ [])) w) ]) (if same v w then suc (length vs) else suc (suc (length vs)))
+    go true e h = absurd (omega arith)
+    go false e h = ap suc (h (omega arith)) ∙ more (same v w) (length vs)
+
+pub number-stays : (vs ws : List (List ℕ)) (w : List ℕ) → number-in vs w < length vs → number-in (vs ++ ws) w ≡ number-in vs w
+unfolding number-in
+number-stays [] ws w l = absurd (omega arith)
+number-stays (u ∷ vs) ws w l = go (same u w) l (number-stays vs ws w)
+  where
+    go : (t : Bool) → _<_ (elim t [ true ↦ 0 | false ↦ suc (number-in vs w) ]) (suc (length vs)) →
+        (number-in vs w < length vs → number-in (vs ++ ws) w ≡ number-in vs w) →
+        _≡_ {A = ℕ} (elim t [ true ↦ 0 | false ↦ suc (number-in (vs ++ ws) w) ]) (elim t [ true ↦ 0 | false ↦ suc (number-in vs w) ])
+    go true l h = refl
+    go false l h = ap suc (h (omega arith))
+
+swapped : (v w : List ℕ) → same w v ≡ false → same v w ≡ false
+swapped v w f = go (same v w) refl
+  where
+    go : (t : Bool) → same v w ≡ t → t ≡ false
+    go true e = absurd (true≢false (sym (same-self w) ∙ ap (same w) (sym (same-equal v w e)) ∙ f))
+    go false e = refl
+
+-- a name that is none of them has no number among them
+number-none : (vs : List (List ℕ)) (w : List ℕ) → any (same w) vs ≡ false → number-in vs w ≡ length vs
+unfolding number-in any
+number-none [] w f = refl
+number-none (v ∷ vs) w f = go (same w v) refl f (λ q. number-none vs w q)
+  where
+    later : (t : Bool) → t ≡ false → number-in vs w ≡ length vs → _≡_ {A = ℕ} (elim t [ true ↦ 0 | false ↦ suc (number-in vs w) ]) (suc (length vs))
+    later true e h = absurd (true≢false e)
+    later false e h = ap suc h
+
+    go : (t : Bool) → same w v ≡ t → (t || any (same w) vs) ≡ false → (any (same w) vs ≡ false → number-in vs w ≡ length vs) →
+        _≡_ {A = ℕ} (elim (same v w) [ true ↦ 0 | false ↦ suc (number-in vs w) ]) (suc (length vs))
+    go true e q h = absurd (true≢false q)
+    go false e q h = later (same v w) (swapped v w e) (h q)
+
+module _ (s b e : List ℕ) (n a p : ℕ) (hb : n < length b) (he : n < length e) (i : Numbered s b e n) (new : any (same (part s a p)) (table-of s b e n) ≡ false) where
+  own-before : (k : ℕ) → k < n → number-in (table-of s (set-word b n a) (set-word e n p) (n + 1)) (part s (word (set-word b n a) k) (word (set-word e n p) k)) ≡ k
+  own-before k l =
+      rw (table-more s b e n a p hb he, word-other b n k a (word b k) (less k n l) refl, word-other e n k p (word e k) (less k n l) refl)
+      (number-stays (table-of s b e n) _ (part s (word b k) (word e k)) (omega (arith, i .own k l, table-length s b e n)) ∙ i .own k l)
+    where
+      less : (k n : ℕ) → k < n → (k ≡ n → ⊥)
+      less k n l e = omega arith
+
+  own-last : number-in (table-of s (set-word b n a) (set-word e n p) (n + 1)) (part s (word (set-word b n a) n) (word (set-word e n p) n)) ≡ n
+  own-last =
+      rw (table-more s b e n a p hb he, word-same b n a hb, word-same e n p he)
+      (number-last (table-of s b e n) (part s a p) (part s a p) (number-none (table-of s b e n) (part s a p) new) ∙ rw (same-self (part s a p)) (table-length s b e n))
+
+  -- a new name is found at its own number too
+  numbered-more : Numbered s (set-word b n a) (set-word e n p) (n + 1)
+  numbered-more = record { own = λ k l. go k l (decLt k n) }
+    where
+      last : (k : ℕ) → k < n + 1 → (k < n → ⊥) → k ≡ n
+      last k l f = omega arith
+
+      go : (k : ℕ) → k < n + 1 → Dec (k < n) → number-in (table-of s (set-word b n a) (set-word e n p) (n + 1)) (part s (word (set-word b n a) k) (word (set-word e n p) k)) ≡ k
+      go k l (yes q) = own-before k q
+      go k l (no q) = rw (last k l q) own-last
+
+numbered-none : (s b e : List ℕ) → Numbered s b e 0
+numbered-none s b e = record { own = λ k l. absurd (none k l) }
+  where
+    none : (k : ℕ) → k < 0 → ⊥
+    none k l = omega arith
+
+not-known : (t u : Bool) → (t && not u) ≡ true → u ≡ false
+not-known true true e = absurd (false≢true e)
+not-known true false e = refl
+not-known false u e = absurd (false≢true e)
+
+-- ---- A token is kept
+
+module _ (s b e hints : List ℕ) (n k a p : ℕ) where
+  pub keep-other : (k ≡ 25 → ⊥) → Noted s b e hints n k a p b e hints n
   unfolding is-new
-  new-other d = rw (ne-eqb k 25 d)
+  keep-other h = record { begins-is = rw (ne-eqb k 25 h); ends-is = rw (ne-eqb k 25 h); hints-are = rw (ne-eqb k 25 h); count-is = rw (ne-eqb k 25 h) }
 
-  pub new-name : k ≡ 25 → (t : Bool) → t ≡ any (same (part s a p)) (table-of s b e n) → not t ≡ is-new s b e n k a p
-  unfolding is-new
-  new-name d t h = rw (d, h)
+  module _ (h : k ≡ 25) (t : Bool) (et : t ≡ any (same (part s a p)) (table-of s b e n)) where
+    newness : is-new s b e n k a p ≡ not t
+    unfolding is-new
+    newness = rw (eq-eqb k 25 h, et)
 
-  module _ (t : Bool) (h : t ≡ is-new s b e n k a p) where
-    pub noted-not : t ≡ false → Noted s b e n k a p b e n
-    noted-not d = let g : is-new s b e n k a p ≡ false = sym h ∙ d in record { begins-is = rw g; ends-is = rw g; count-is = rw g }
+    pub keep-known : t ≡ true → Noted s b e hints n k a p b e hints n
+    keep-known d = let g : is-new s b e n k a p ≡ false = newness ∙ ap not d in record { begins-is = rw g; ends-is = rw g; hints-are = rw g; count-is = rw g }
 
-    pub noted-new : t ≡ true → (b' e' : List ℕ) → b' ≡ set-word b n a → e' ≡ set-word e n p → Noted s b e n k a p b' e' (n + 1)
-    noted-new d b' e' eb ee = let g : is-new s b e n k a p ≡ true = sym h ∙ d in record { begins-is = rw g eb; ends-is = rw g ee; count-is = rw g }
+    pub keep-new : t ≡ false → (hints' : List ℕ) → hints' ≡ set-word hints (hash-of (part s a p)) (n + 1) → (i j : ℕ) → i ≡ n → j ≡ n →
+        (b' e' : List ℕ) → b' ≡ set-word b i a → e' ≡ set-word e j p → Noted s b e hints n k a p b' e' hints' (n + 1)
+    keep-new d hints' eh i j ei ej b' e' eb ee =
+        let g : is-new s b e n k a p ≡ true = newness ∙ ap not d in
+        record { begins-is = rw g (eb ∙ rw ei); ends-is = rw g (ee ∙ rw ej); hints-are = rw g eh; count-is = rw g }
 
--- ---- The loop
+-- ---- The loop that keeps them
 
 -- names are only added
 pub grows : (table : List (List ℕ)) (ts : List Token) → length table ≤ length (names-after table ts)
@@ -120,104 +339,118 @@ pub names-name : (s : List ℕ) (a p w : ℕ) (table : List (List ℕ)) (ts : Li
 unfolding names-after token-of
 names-name s a p w table ts = refl
 
--- the tokens that are left make more than 128 names of those kept
-unfoldable pub too-many : List (List ℕ) → List Token → Bool
-too-many table ts = ltb 128 (length (names-after table ts))
+names-step : (s : List ℕ) (k a p w : ℕ) (table : List (List ℕ)) (ts : List Token) → k < 29 →
+    names-after table (token-of s k a p w ∷ ts) ≡ names-after (if (eqb k 25 && not (any (same (part s a p)) table)) then table ++ (part s a p ∷ []) else table) ts
+names-step s k a p w table ts l = go (eqb k 25) refl (any (same (part s a p)) table) refl
+  where
+    go : (t : Bool) → eqb k 25 ≡ t → (u : Bool) → any (same (part s a p)) table ≡ u →
+        names-after table (token-of s k a p w ∷ ts) ≡ names-after (if (t && not u) then table ++ (part s a p ∷ []) else table) ts
+    go true x true y = rw (eqb-true k 25 x) (names-name s a p w table ts ∙ rw y)
+    go true x false y = rw (eqb-true k 25 x) (names-name s a p w table ts ∙ rw y)
+    go false x u y = names-other table (token-of s k a p w) ts (λ f. eqb-false k 25 x (sym (kind-is s a p w k l) ∙ f))
 
-pub record Naming (s b e : List ℕ) (n at : ℕ) : Type 0 where
+pub record Keeping (s b e hints : List ℕ) (n at : ℕ) : Type 0 where
   pub begins-size : length b ≡ 129
   pub ends-size : length e ≡ 129
   pub few : n ≤ 128
-  pub going : Going (too-many []) s 0 (too-many (table-of s b e n)) at
+  pub numbered : Numbered s b e n
+  pub marked : Marked s b e hints n
+  pub going : Going name-table s 0 (names-after (table-of s b e n)) at
 
-pub naming-start : (s b e : List ℕ) → length b ≡ 129 → length e ≡ 129 → Naming s b e 0 0
-unfolding table-of
-naming-start s b e hb he = record { begins-size = hb; ends-size = he; few = omega arith; going = go-start _ s 0 }
+pub keeping-start : (s b e hints : List ℕ) → Sized b e hints → Keeping s b e hints 0 0
+unfolding table-of name-table
+keeping-start s b e hints z = record {
+  begins-size = z .begins-size;
+  ends-size = z .ends-size;
+  few = omega arith;
+  numbered = numbered-none s b e;
+  marked = record { size = z .hints-size; set = λ k h. absurd (none k h) };
+  going = go-start _ s 0;
+}
+  where
+    none : (k : ℕ) → k < 0 → ⊥
+    none k h = omega arith
 
-ended : (s : List ℕ) (r : Bool) → Gives (too-many []) s 0 r → ManyNames s r
-unfolding too-many name-table rest
-ended s r g = record { is = λ ts e. sym (g .gives ts e) }
+kept-of : (s b e : List ℕ) (n : ℕ) → Numbered s b e n → Gives name-table s 0 (table-of s b e n) → Kept s b e n
+unfolding rest
+kept-of s b e n z g = record {
+  numbered = z;
+  is = λ ts f l. sym (g .gives ts f);
+  many = λ ts f. ap (ltb 128) (sym (table-length s b e n) ∙ ap length (sym (g .gives ts f)));
+}
 
-module _ (s b e : List ℕ) (n at : ℕ) (i : Naming s b e n at) where
-  none-left : Gives (too-many []) s 0 (too-many (table-of s b e n) []) → ManyNames s false
-  unfolding too-many names-after
-  none-left g = ended s false (rw (table-length s b e n, le-ltb 128 n (i .few)) at g)
+module _ (s b e hints : List ℕ) (n at : ℕ) (i : Keeping s b e hints n at) where
+  ended : Gives name-table s 0 (names-after (table-of s b e n) []) → Kept s b e n
+  unfolding names-after
+  ended g = kept-of s b e n (i .numbered) g
 
-  pub naming-done : length s ≤ at → ManyNames s false
-  naming-done l = none-left (go-done _ s 0 _ at (i .going) l)
+  pub keeping-done : length s ≤ at → Kept s b e n
+  keeping-done l = ended (go-done _ s 0 _ at (i .going) l)
 
-  pub naming-small : NotHuge n
-  naming-small = record { small = omega (arith, i .few) }
+  pub keeping-few : Few n
+  keeping-few = record { few = i .few }
 
   module _ (r : TokenRead) (found : TokenAt class s at r) where
-    pub naming-end : r ≡ TokenRead.End → ManyNames s false
-    naming-end h = none-left (go-end _ s 0 _ at (i .going) r found h)
+    pub keeping-none : OneOf (0 ∷ 1 ∷ []) (tagOf the-type r) → Kept s b e n
+    keeping-none o = go r refl o
+      where
+        go : (q : TokenRead) → r ≡ q → OneOf (0 ∷ 1 ∷ []) (tagOf the-type q) → Kept s b e n
+        go TokenRead.End h o = ended (go-end _ s 0 _ at (i .going) r found h)
+        go TokenRead.NoToken h o = ended (go-none _ s 0 _ at (i .going) r found h _)
+        go (TokenRead.Token k a p x) h o = absurd (miss (0 ∷ 1 ∷ []) 2 tt o)
 
-    pub naming-none : r ≡ TokenRead.NoToken → ManyNames s false
-    naming-none h = none-left (go-none _ s 0 _ at (i .going) r found h _)
-
-    module _ (k a p w : ℕ) (h : r ≡ TokenRead.Token k a p w) (b' e' : List ℕ) (n' : ℕ) (noted : Noted s b e n k a p b' e' n') where
-      spot : Spot at (length s) k a p
-      spot = spot-of r (found .on) h
-
-      -- a token that is no new name leaves all as it is
-      same-step : is-new s b e n k a p ≡ false → (us : List Token) → names-after (table-of s b e n) (token-of s k a p w ∷ us) ≡ names-after (table-of s b e n) us
-      unfolding is-new
-      same-step d us = go (eqb k 25) refl (any (same (part s a p)) (table-of s b e n)) refl d
-        where
-          kind : (k ≡ 25 → ⊥) → (token-kind (token-of s k a p w) ≡ 25 → ⊥)
-          kind z y = z (sym (kind-is s a p w k (spot .known)) ∙ y)
-
-          go : (t : Bool) → eqb k 25 ≡ t → (u : Bool) → any (same (part s a p)) (table-of s b e n) ≡ u → (t && not u) ≡ false
-              → names-after (table-of s b e n) (token-of s k a p w ∷ us) ≡ names-after (table-of s b e n) us
-          go true x true y z = rw (eqb-true k 25 x) (names-name s a p w (table-of s b e n) us ∙ rw y)
-          go true x false y z = absurd (true≢false z)
-          go false x u y z = names-other (table-of s b e n) (token-of s k a p w) us (kind (eqb-false k 25 x))
-
-      new-step : is-new s b e n k a p ≡ true → (us : List Token) → names-after (table-of s b e n) (token-of s k a p w ∷ us) ≡ names-after (table-of s b e n ++ (part s a p ∷ [])) us
-      unfolding is-new
-      new-step d us = go (eqb k 25) refl (any (same (part s a p)) (table-of s b e n)) refl d
-        where
-          go : (t : Bool) → eqb k 25 ≡ t → (u : Bool) → any (same (part s a p)) (table-of s b e n) ≡ u → (t && not u) ≡ true
-              → names-after (table-of s b e n) (token-of s k a p w ∷ us) ≡ names-after (table-of s b e n ++ (part s a p ∷ [])) us
-          go true x true y z = absurd (false≢true z)
-          go true x false y z = rw (eqb-true k 25 x) (names-name s a p w (table-of s b e n) us ∙ rw y)
-          go false x u y z = absurd (false≢true z)
-
-      -- what is kept after the token
+    module _ (k a p w : ℕ) (h : r ≡ TokenRead.Token k a p w) (b' e' hints' : List ℕ) (n' : ℕ) (noted : Noted s b e hints n k a p b' e' hints' n') where
       record After : Type 0 where
         begins-size : length b' ≡ 129
         ends-size : length e' ≡ 129
-        few : n' ≤ 129
+        more : n' ≤ 129
+        numbered : Numbered s b' e' n'
+        marked : Marked s b' e' hints' n'
         step : (us : List Token) → names-after (table-of s b e n) (token-of s k a p w ∷ us) ≡ names-after (table-of s b' e' n') us
 
       after : After
-      after = go (is-new s b e n k a p) refl (noted .begins-is) (noted .ends-is) (noted .count-is)
+      unfolding is-new
+      after = go (eqb k 25 && not (any (same (part s a p)) (table-of s b e n))) refl (noted .begins-is) (noted .ends-is) (noted .hints-are) (noted .count-is)
         where
-          go : (t : Bool) → is-new s b e n k a p ≡ t → b' ≡ (if t then set-word b n a else b) → e' ≡ (if t then set-word e n p else e) → n' ≡ (if t then n + 1 else n) → After
-          go true x eb ee en = record {
+          spot : Spot at (length s) k a p
+          spot = spot-of r (found .on) h
+
+          go : (t : Bool) → (eqb k 25 && not (any (same (part s a p)) (table-of s b e n))) ≡ t → b' ≡ (if t then set-word b n a else b) → e' ≡ (if t then set-word e n p else e) → hints' ≡ (if t then set-word hints (hash-of (part s a p)) (n + 1) else hints) → n' ≡ (if t then n + 1 else n) → After
+          go true x eb ee eh en = record {
             begins-size = rw eb (set-size b n a ∙ i .begins-size);
             ends-size = rw ee (set-size e n p ∙ i .ends-size);
-            few = omega (arith, i .few);
-            step = rw (eb, ee, en, table-more s b e n a p (omega (arith, i .begins-size, i .few)) (omega (arith, i .ends-size, i .few))) (new-step x);
+            more = omega (arith, i .few);
+            numbered = rw (eb, ee, en) (numbered-more s b e n a p (omega (arith, i .begins-size, i .few)) (omega (arith, i .ends-size, i .few)) (i .numbered) (not-known (eqb k 25) (any (same (part s a p)) (table-of s b e n)) x));
+            marked = rw (eb, ee, eh, en) (marked-more s b e hints n a p (i .marked) (omega (arith, i .begins-size, i .few)) (omega (arith, i .ends-size, i .few)));
+            step = λ us. names-step s k a p w (table-of s b e n) us (spot .known) ∙ rw (x, eb, ee, en, table-more s b e n a p (omega (arith, i .begins-size, i .few)) (omega (arith, i .ends-size, i .few)));
           }
-          go false x eb ee en = record {
+          go false x eb ee eh en = record {
             begins-size = rw eb (i .begins-size);
             ends-size = rw ee (i .ends-size);
-            few = omega (arith, i .few);
-            step = rw (eb, ee, en) (same-step x);
+            more = omega (arith, i .few);
+            numbered = rw (eb, ee, en) (i .numbered);
+            marked = rw (eb, ee, eh, en) (i .marked);
+            step = λ us. names-step s k a p w (table-of s b e n) us (spot .known) ∙ rw (x, eb, ee, en);
           }
 
-      pub naming-many : 128 < n' → ManyNames s true
-      unfolding too-many
-      naming-many l = ended s true (go-early _ s 0 _ at (i .going) r found k a p w h true (λ us f. ap (λ (t : List (List ℕ)). ltb 128 (length t)) (after .step us)
-          ∙ lt-ltb 128 (length (names-after (table-of s b' e' n') us)) (omega (arith, grows (table-of s b' e' n') us, table-length s b' e' n'))))
+      pub keeping-many : 128 < n' → Kept s b' e' n'
+      unfolding rest
+      keeping-many l = record { numbered = after .numbered; is = λ ts f m. absurd (go ts f m); many = λ ts f. lt-ltb 128 n' l ∙ sym (lt-ltb 128 (length (name-table ts)) (above ts f)) }
+        where
+          above : (ts : List Token) → tokens class s ≡ some ts → 128 < length (name-table ts)
+          above ts f =
+              let u = Loop.go-token _ s 0 _ at (i .going) r found k a p w h ts f in
+              omega (arith, ap length (u .2 ∙ after .step (u .0)), grows (table-of s b' e' n') (u .0), table-length s b' e' n')
 
-      pub naming-again : n' ≤ 128 → Naming s b' e' n' p
-      unfolding too-many
-      naming-again l = record {
+          go : (ts : List Token) → tokens class s ≡ some ts → length (name-table ts) ≤ 128 → ⊥
+          go ts f m = omega (arith, above ts f)
+
+      pub keeping-again : n' ≤ 128 → Keeping s b' e' hints' n' p
+      keeping-again l = record {
         begins-size = after .begins-size;
         ends-size = after .ends-size;
         few = l;
-        going = go-again _ s 0 _ at (i .going) r found k a p w h _ (λ us f. ap (λ (t : List (List ℕ)). ltb 128 (length t)) (after .step us));
+        numbered = after .numbered;
+        marked = after .marked;
+        going = go-again _ s 0 _ at (i .going) r found k a p w h _ (λ us f. after .step us);
       }

@@ -3,13 +3,13 @@ use mathlib.Core.Path.{_≡_}
 use mathlib.Core.Bool.{Bool, _&&_, not}
 use mathlib.Core.List.{List, [], _∷_, _++_}
 use mathlib.Core.Option.{some}
-use Prim.Native.Nat.{ℕ, zero, suc, _+_, _<_}
+use Prim.Native.Nat.{ℕ, zero, suc, _+_, _*_, _%_, _<_, _≤_}
 use lib.Dec.{eqb, ltb}
 use lib.ListN.{length}
 use Rattle.framed.specs.Common.{if_then_else_, any, same}
 use Rattle.framed.specs.Bytes.{class}
 use Rattle.framed.specs.Tokens.{Token, tokens}
-use Rattle.framed.specs.Symbols.{name-table}
+use Rattle.framed.specs.Symbols.{name-table, number-in}
 use Rattle.source.specs.Positions.{part}
 use Rattle.words.specs.Words.{word, set-word}
 
@@ -22,15 +22,41 @@ table-of s begins ends (suc n) = table-of s begins ends n ++ (part s (word begin
 unfoldable pub is-new : List ℕ → List ℕ → List ℕ → ℕ → ℕ → ℕ → ℕ → Bool
 is-new s begins ends n k a p = eqb k 25 && not (any (same (part s a p)) (table-of s begins ends n))
 
--- such a token is kept as the next name
-pub record Noted (s begins ends : List ℕ) (n k a p : ℕ) (begins' ends' : List ℕ) (r : ℕ) : Type 0 where
+-- the hash of bytes
+unfoldable pub hash-from : ℕ → List ℕ → ℕ
+hash-from h [] = h % 1024
+hash-from h (b ∷ w) = hash-from ((h * 37 + b) % 65536) w
+
+unfoldable pub hash-of : List ℕ → ℕ
+hash-of w = hash-from 0 w
+
+-- such a token is kept as the next name, with a hint
+pub record Noted (s begins ends hints : List ℕ) (n k a p : ℕ) (begins' ends' hints' : List ℕ) (r : ℕ) : Type 0 where
   pub begins-is : begins' ≡ (if is-new s begins ends n k a p then set-word begins n a else begins)
   pub ends-is : ends' ≡ (if is-new s begins ends n k a p then set-word ends n p else ends)
+  pub hints-are : hints' ≡ (if is-new s begins ends n k a p then set-word hints (hash-of (part s a p)) (n + 1) else hints)
   pub count-is : r ≡ (if is-new s begins ends n k a p then n + 1 else n)
 
-pub record NotHuge (n : ℕ) : Type 0 where
-  pub small : n < 18446744073709551615
+-- each of the first n names kept has a hint by its hash
+pub record Marked (s begins ends hints : List ℕ) (n : ℕ) : Type 0 where
+  pub size : length hints ≡ 1024
+  pub set : (k : ℕ) → k < n → (word hints (hash-of (part s (word begins k) (word ends k))) ≡ 0 → ⊥)
 
--- where the source is tokens, the answer says whether they have more than 128 distinct names
-pub record ManyNames (s : List ℕ) (r : Bool) : Type 0 where
-  pub is : (ts : List Token) → tokens class s ≡ some ts → r ≡ ltb 128 (length (name-table ts))
+pub record Few (n : ℕ) : Type 0 where
+  pub few : n ≤ 128
+
+-- room for 129 names and their hints
+pub record Sized (begins ends hints : List ℕ) : Type 0 where
+  pub begins-size : length begins ≡ 129
+  pub ends-size : length ends ≡ 129
+  pub hints-size : length hints ≡ 1024
+
+-- each of the first n names kept is found at its own number, since no name is kept twice
+pub record Numbered (s begins ends : List ℕ) (n : ℕ) : Type 0 where
+  pub own : (k : ℕ) → k < n → number-in (table-of s begins ends n) (part s (word begins k) (word ends k)) ≡ k
+
+-- where the source is tokens: the names kept are its name table if it has at most 128 distinct names, and else more than 128 are kept
+pub record Kept (s begins ends : List ℕ) (n : ℕ) : Type 0 where
+  pub numbered : Numbered s begins ends n
+  pub is : (ts : List Token) → tokens class s ≡ some ts → length (name-table ts) ≤ 128 → table-of s begins ends n ≡ name-table ts
+  pub many : (ts : List Token) → tokens class s ≡ some ts → ltb 128 n ≡ ltb 128 (length (name-table ts))

@@ -1,5 +1,5 @@
 -- Laws of the scan of tokens. For every class of bytes `c`. Assumes nothing.
-use mathlib.Core.Path.{_≡_, refl, sym, ap, _∙_}
+use mathlib.Core.Path.{_≡_, refl, sym, ap, _∙_, subst}
 use mathlib.Core.Bool.{Bool, true, false}
 use mathlib.Core.List.{List, []}
 use mathlib.Core.Option.{Option, none, some}
@@ -10,7 +10,7 @@ use lib.ListN.{length}
 use borrow.Author.Tests.{ne-eqb, lt-ltb, le-ltb}
 use Rattle.framed.specs.Common.{if_then_else_}
 use Rattle.framed.specs.Tokens.{Token, Fixed, Operator, tokens, highest-nesting, open-after, next, read, skip, prepend, end}
-use Rattle.framed.specs.Bytes.{Classes}
+use Rattle.framed.specs.Bytes.{Classes, class}
 use Rattle.framed.proofs.TokensExact.{tokens-end}
 use Rattle.source.specs.Positions.{rest}
 use Rattle.source.proofs.Positions.{rest-end}
@@ -18,6 +18,7 @@ use Rattle.token.specs.Reading.{operator-kind, fixed-kind, token-kind, token-of
 use Rattle.token.specs.declared.TokenRead.{TokenRead}
 use Rattle.token.proofs.KindNumbers.{kind-is}
 use Rattle.token.proofs.Answers.{spot-of, tokens-at-end, tokens-at-none, tokens-at-token}
+use Rattle.token_cache.specs.Cache.{Cached, CanStore}
 use Rattle.scan.specs.Scan.{nesting-refusal, tokens-refusal, depth-after, last-refusal, NotHuge}
 
 less-one : (n : ℕ) → pred n ≡ n - 1
@@ -155,3 +156,7 @@ module _ (c : Classes) (s : List ℕ) (at n high : ℕ) (i : Scanning c s at n h
     where
       ends : (bs : List ℕ) → bs ≡ [] → next c bs ≡ end
       ends bs e = rw e
+
+-- a token that was read can be stored
+pub scan-store : (c s : List ℕ) (at k a p w : ℕ) (r : TokenRead) → Cached c s → TokenAt class s at r → r ≡ TokenRead.Token k a p w → CanStore c s at k a p w
+scan-store c s at k a p w r cached found is = record { cached = cached; read = subst (TokenAt class s at) is found }

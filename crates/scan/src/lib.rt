@@ -3,6 +3,7 @@ ghost use mathlib.Core.Path.{_≡_};
 ghost use Prim.Native.Nat.{_-_, max};
 ghost use Rattle.framed.specs.Bytes.{class};
 ghost use Rattle.framed.specs.Tokens.{tokens};
+ghost use Rattle.token_cache.specs.Cache.{Cached};
 ghost use Rattle.scan.specs.Scan.{tokens-refusal, depth-after, last-refusal, NotHuge};
 use token::TokenRead;
 
@@ -46,9 +47,11 @@ fn verdict(high: usize, depth: usize) -> u32
     if m <= 16 { 0 } else { 5 }
 }
 
-// 4 where bytes form no token, else 5 where the nesting is above 16, else 0.
-pub fn check_tokens(s: &[u8]) -> u32
-    ensures { λ r. ⌜ r ≡ tokens-refusal (tokens class (now (s .entry))) ⌝ }
+// 4 where bytes form no token, else 5 where the nesting is above 16, else 0. Keeps the tokens that it reads.
+pub fn check_tokens(c: &mut [u64; 16384], s: &[u8]) -> u32
+    requires { ⌜ Cached (now c) (now s) ⌝ }
+    ensures number { λ r. ⌜ r ≡ tokens-refusal (tokens class (now (s .entry))) ⌝ }
+    ensures cached { λ _. ⌜ Cached (now (c .exit)) (now (s .entry)) ⌝ }
 {
     let mut at = 0;
     let mut depth = 0;
@@ -61,7 +64,8 @@ pub fn check_tokens(s: &[u8]) -> u32
             TokenRead::NoToken => {
                 return 4;
             }
-            TokenRead::Token(k, _begin, end, _word) => {
+            TokenRead::Token(k, begin, end, word) => {
+                token_cache::store(c, s, at, k, begin, end, word);
                 high = larger(high, depth);
                 depth = depth_after(depth, k);
                 at = end;

@@ -21,7 +21,7 @@ use Rattle.shapes.proofs.Tokens.{TokenShaped, AllShaped}
 
 -- ---- Equal lists of bytes
 
-same-equal : (v w : List ℕ) → same v w ≡ true → v ≡ w
+pub same-equal : (v w : List ℕ) → same v w ≡ true → v ≡ w
 unfolding same
 same-equal [] [] e = refl
 same-equal [] (y ∷ w) e = absurd (false≢true e)
@@ -32,7 +32,7 @@ same-equal (x ∷ v) (y ∷ w) e =
     let q : v ≡ w = same-equal v w (h .1) in
     cc
 
-same-self : (w : List ℕ) → same w w ≡ true
+pub same-self : (w : List ℕ) → same w w ≡ true
 unfolding same
 same-self [] = refl
 same-self (x ∷ w) = rw (eq-eqb x x refl, same-self w)

@@ -5,6 +5,7 @@ ghost use Rattle.framed.specs.Common.{any, same};
 ghost use Rattle.source.specs.Positions.{part};
 ghost use Rattle.scan.specs.Scan.{depth-after, NotHuge};
 ghost use Rattle.sweep.specs.Decides.{Decides};
+ghost use Rattle.token_cache.specs.Cache.{Cached};
 ghost use Rattle.names.specs.Kept.{table-of};
 ghost use Rattle.slots.specs.Own.{closes, names-slot, Added, bad-tree};
 ghost use Rattle.slots.specs.Checks.{clear-after, Checks, Opens};
@@ -114,10 +115,10 @@ fn clear_after(clear: usize, at: usize, k: u32, end: usize) -> usize
 }
 
 // The frame whose slots begin there.
-fn bad_slots(s: &[u8], from: usize) -> Checked
+fn bad_slots(c: &[u64; 16384], s: &[u8], from: usize) -> Checked
+    requires { ⌜ Cached (now c) (now s) ⌝ }
     ensures { λ r. ⌜ Checks (now (s .entry)) from r ⌝ }
 {
-    let classes = source::classes();
     let mut begins = [0usize; 17];
     let mut ends = [0usize; 17];
     let mut n = 0;
@@ -126,7 +127,7 @@ fn bad_slots(s: &[u8], from: usize) -> Checked
     let mut clear = from;
     let mut at = from;
     while at < s.len() {
-        match token::token_in(&classes, s, at) {
+        match token_cache::token_in(c, s, at) {
             TokenRead::End => {
                 return Checked { bad: false, clear };
             }
@@ -156,11 +157,12 @@ fn bad_slots(s: &[u8], from: usize) -> Checked
 }
 
 // A token of kind k opens such a frame; where it opens none, no frame begins before its end.
-fn opens_bad(s: &[u8], k: u32, end: usize) -> Checked
+fn opens_bad(c: &[u64; 16384], s: &[u8], k: u32, end: usize) -> Checked
+    requires { ⌜ Cached (now c) (now s) ⌝ }
     ensures { λ r. ⌜ Opens (now (s .entry)) k end r ⌝ }
 {
     if k == 12 {
-        return bad_slots(s, end);
+        return bad_slots(c, s, end);
     }
     Checked {
         bad: false,
@@ -169,13 +171,13 @@ fn opens_bad(s: &[u8], k: u32, end: usize) -> Checked
 }
 
 // Some frame has a name twice or more than 16 slots.
-pub fn bad_frame(s: &[u8]) -> bool
+pub fn bad_frame(c: &[u64; 16384], s: &[u8]) -> bool
+    requires { ⌜ Cached (now c) (now s) ⌝ }
     ensures { λ r. ⌜ Decides bad-tree (now (s .entry)) r ⌝ }
 {
-    let classes = source::classes();
     let mut at = 0;
     while at < s.len() {
-        match token::token_in(&classes, s, at) {
+        match token_cache::token_in(c, s, at) {
             TokenRead::End => {
                 return false;
             }
@@ -183,7 +185,7 @@ pub fn bad_frame(s: &[u8]) -> bool
                 return false;
             }
             TokenRead::Token(k, _begin, end, _word) => {
-                let r = opens_bad(s, k, end);
+                let r = opens_bad(c, s, k, end);
                 if r.bad {
                     return true;
                 }

@@ -3,15 +3,17 @@ ghost use mathlib.Core.Path.{_≡_};
 ghost use mathlib.Core.Bool.{_&&_};
 ghost use Rattle.framed.specs.Common.{same};
 ghost use Rattle.source.specs.Positions.{part};
+ghost use Rattle.token_cache.specs.Cache.{Cached};
 ghost use Rattle.start.specs.Find.{after-kind, opening, find, value, start-value, Leads, HasStart};
 use grammar::Found;
 use token::TokenRead;
 
 // Where a token of kind k ends.
-fn take(s: &[u8], at: usize, k: u32) -> Found
+fn take(c: &[u64; 16384], s: &[u8], at: usize, k: u32) -> Found
+    requires { ⌜ Cached (now c) (now s) ⌝ }
     ensures { λ r. ⌜ Leads (after-kind k) (now (s .entry)) at r ⌝ }
 {
-    let t = token::token_at(s, at);
+    let t = token_cache::token_in(c, s, at);
     let TokenRead::Token(j, _begin, end, _word) = t else {
         return Found::Refused;
     };
@@ -33,15 +35,15 @@ fn is_slot(s: &[u8], slot: bool, a: usize, p: usize, name: &[u8]) -> bool
 }
 
 // Where the name of the first slot so named ends, in the frame whose slots begin there.
-fn find_slot(s: &[u8], from: usize, name: &[u8]) -> Found
+fn find_slot(c: &[u64; 16384], s: &[u8], from: usize, name: &[u8]) -> Found
+    requires { ⌜ Cached (now c) (now s) ⌝ }
     ensures { λ r. ⌜ Leads (find (now (name .entry)) 0 0) (now (s .entry)) from r ⌝ }
 {
-    let classes = source::classes();
     let mut depth = 0;
     let mut last = 0;
     let mut at = from;
     while at < s.len() {
-        match token::token_in(&classes, s, at) {
+        match token_cache::token_in(c, s, at) {
             TokenRead::End => {
                 return Found::Refused;
             }
@@ -66,59 +68,63 @@ fn find_slot(s: &[u8], from: usize, name: &[u8]) -> Found
 }
 
 // Where the value of the first slot so named begins.
-fn slot_value(s: &[u8], at: usize, name: &[u8]) -> Found
+fn slot_value(c: &[u64; 16384], s: &[u8], at: usize, name: &[u8]) -> Found
+    requires { ⌜ Cached (now c) (now s) ⌝ }
     ensures { λ r. ⌜ Leads (value (now (name .entry))) (now (s .entry)) at r ⌝ }
 {
-    let x = find_slot(s, at, name);
+    let x = find_slot(c, s, at, name);
     let Found::Done(p) = x else {
         return Found::Refused;
     };
-    take(s, p, 6)
+    take(c, s, p, 6)
 }
 
 // Where the slots of the frame written there begin.
-fn frame_slots(s: &[u8], at: usize) -> Found
+fn frame_slots(c: &[u64; 16384], s: &[u8], at: usize) -> Found
+    requires { ⌜ Cached (now c) (now s) ⌝ }
     ensures { λ r. ⌜ Leads opening (now (s .entry)) at r ⌝ }
 {
-    let x = take(s, at, 0);
+    let x = take(c, s, at, 0);
     let Found::Done(p) = x else {
         return Found::Refused;
     };
-    let y = take(s, p, 5);
+    let y = take(c, s, p, 5);
     let Found::Done(q) = y else {
         return Found::Refused;
     };
-    take(s, q, 12)
+    take(c, s, q, 12)
 }
 
 // Where the value of slot start in the frame in slot Main begins.
-fn start_value(s: &[u8]) -> Found
+fn start_value(c: &[u64; 16384], s: &[u8]) -> Found
+    requires { ⌜ Cached (now c) (now s) ⌝ }
     ensures { λ r. ⌜ Leads start-value (now (s .entry)) 0 r ⌝ }
 {
-    let x = frame_slots(s, 0);
+    let x = frame_slots(c, s, 0);
     let Found::Done(p) = x else {
         return Found::Refused;
     };
-    let y = slot_value(s, p, b"Main");
+    let y = slot_value(c, s, p, b"Main");
     let Found::Done(q) = y else {
         return Found::Refused;
     };
-    let z = frame_slots(s, q);
+    let z = frame_slots(c, s, q);
     let Found::Done(u) = z else {
         return Found::Refused;
     };
-    slot_value(s, u, b"start")
+    slot_value(c, s, u, b"start")
 }
 
 // The program frame has a slot Main with a frame that has a slot start with a code.
-pub fn has_start(s: &[u8]) -> bool
+pub fn has_start(c: &[u64; 16384], s: &[u8]) -> bool
+    requires { ⌜ Cached (now c) (now s) ⌝ }
     ensures { λ r. ⌜ HasStart (now (s .entry)) r ⌝ }
 {
-    let x = start_value(s);
+    let x = start_value(c, s);
     let Found::Done(p) = x else {
         return false;
     };
-    let y = take(s, p, 28);
+    let y = take(c, s, p, 28);
     let Found::Done(_end) = y else {
         return false;
     };

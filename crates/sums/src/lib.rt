@@ -9,6 +9,7 @@ ghost use Prim.Native.Nat.{_+_};
 ghost use Rattle.sums.specs.Weights.{one-if, opened, closed, curly-after, square-after, further-after, expression-weight, plain-weight, mark-weight, placed-weight, up-weight, path-weight, weight, NotHuge};
 ghost use Rattle.sums.specs.Totals.{Room, Rooms, Added, nothing, Totalled};
 ghost use Rattle.sweep.specs.Decides.{Short};
+ghost use Rattle.token_cache.specs.Cache.{Cached};
 use token::TokenRead;
 
 fn one_if(a: u32, b: u32) -> usize
@@ -265,11 +266,11 @@ fn nothing() -> Totals
 }
 
 // The sums over the tokens of a source, in one reading.
-pub fn sum_all(s: &[u8]) -> Totals
-    requires { ⌜ Short (now s) ⌝ }
+pub fn sum_all(c: &[u64; 16384], s: &[u8]) -> Totals
+    requires short { ⌜ Short (now s) ⌝ }
+    requires cached { ⌜ Cached (now c) (now s) ⌝ }
     ensures { λ r. ⌜ Totalled (now (s .entry)) r ⌝ }
 {
-    let classes = source::classes();
     let mut at = 0;
     let mut t = nothing();
     let mut curly = 0;
@@ -277,7 +278,7 @@ pub fn sum_all(s: &[u8]) -> Totals
     let mut further = 0;
     let mut last = 0;
     while at < s.len() {
-        match token::token_in(&classes, s, at) {
+        match token_cache::token_in(c, s, at) {
             TokenRead::End => {
                 return t;
             }

@@ -58,6 +58,12 @@ fn write_tokens(s: &[u8]) {
     }
 }
 
+// The number that refuses a source as tokens, or 0.
+fn refused(s: &[u8]) -> u32 {
+    let mut c = [0u64; 16384];
+    scan::check_tokens(&mut c, s)
+}
+
 fn dump(path: &[u8]) {
     let fd = os::open_read(path);
     if fd < 0 {
@@ -71,7 +77,7 @@ fn dump(path: &[u8]) {
     write(b"\n");
     write_tokens(&buf[..n]);
     write(b"refused ");
-    write_number(scan::check_tokens(&buf[..n]) as u64);
+    write_number(refused(&buf[..n]) as u64);
     write(b"\n");
 }
 

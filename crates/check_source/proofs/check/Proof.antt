@@ -1,21 +1,70 @@
-use Rattle.check_source.proofs.Laws.{check-lengths, check-limits, check-short, check-all}
+use Rattle.check_source.proofs.Laws.{check-lengths, check-limits, check-short, check-all, kept-lengths, kept-limits, kept-all}
 use borrow.Author.Needs.{needs}
 use Rattle.check_source.proofs.check.Statement.{statement}
 use Rattle.check_source.proofs.check.Tie as tie
+use Rattle.check_source.proofs.check.Reads as reads
+use Rattle.check_source.proofs.check.Lts as lts
+use Rattle.check_source.proofs.answer.Reads as answer-reads
+use Rattle.check_source.proofs.lengths_refusal.Reads as lengths-refusal-reads
+use Rattle.check_source.proofs.limits_refusal.Reads as limits-refusal-reads
+use Rattle.check_source.proofs.source_refusal.Reads as source-refusal-reads
 
+-- src/lib.rt:152:9
+lengths-refusal-requires : tie.Need-lengths-refusal-requires
+lengths-refusal-requires c κs = search needs
+
+-- src/lib.rt:154:9
+answer-requires : tie.Need-answer-requires
+answer-requires c κs = search needs
+
+-- src/lib.rt:154:9
 returns : tie.Need-returns
-returns c = search check-lengths
+returns c = (search check-lengths, (search needs, search kept-lengths))
 
+-- src/lib.rt:156:9
+limits-refusal-requires : tie.Need-limits-refusal-requires
+limits-refusal-requires c κs = search needs
+
+-- src/lib.rt:158:9
+answer-requires-2 : tie.Need-answer-requires-2
+answer-requires-2 c κs = search needs
+
+-- src/lib.rt:158:9
 returns-2 : tie.Need-returns-2
-returns-2 c = search check-limits
+returns-2 c = (search check-limits, (search needs, search kept-limits))
 
+-- src/lib.rt:160:9
 source-refusal-requires : tie.Need-source-refusal-requires
-source-refusal-requires c κs = search check-short
+source-refusal-requires c κs = (search check-short, (search needs, search needs))
 
+-- src/lib.rt:161:5
+answer-requires-3 : tie.Need-answer-requires-3
+answer-requires-3 c κs = search needs
+
+-- src/lib.rt:132:1
+same-length : tie.Need-same-length
+same-length c = search needs
+
+-- src/lib.rt:132:1
+same-length-2 : tie.Need-same-length-2
+same-length-2 c = search needs
+
+-- src/lib.rt:132:1
 returns-3 : tie.Need-returns-3
-returns-3 c = search check-all
+returns-3 c = (search check-all, (search needs, search kept-all))
 
 pub check-spec : {M : Type 1} → statement M
 check-spec =
     tie.close
-    (tie.spec (λ c κs. search needs) (λ c κs. search needs) returns (λ c κs. search needs) (λ c κs. search needs) returns-2 source-refusal-requires (λ c κs. search needs) returns-3)
+    (tie.spec
+    lengths-refusal-requires
+    answer-requires
+    returns
+    limits-refusal-requires
+    answer-requires-2
+    returns-2
+    source-refusal-requires
+    answer-requires-3
+    same-length
+    same-length-2
+    returns-3)

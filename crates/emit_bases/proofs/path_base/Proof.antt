@@ -32,7 +32,7 @@ same-length c = search needs
 -- src/lib.rt:23:1
 returns : tie.Need-returns
 returns c =
-    base-path _ _ _ _ _ _ _ _ _ (c .before .before .before .before .before .before .before .before .before .before .before .before .before .before .pre) _ _ (c .before .before .before .before .before .before .before .before .emit-path .ensures) _ (c .before .before .before .before .before .less .ensures) _ (c .before .before .before .before .path-entry .ensures) _ (c .before .before .set-expression .ensures)
+    base-path _ _ _ _ _ _ _ _ _ (c .before .before .before .before .before .before .before .before .before .before .before .before .before .before .pre .1) _ _ (c .before .before .before .before .before .before .before .before .emit-path .ensures) _ (c .before .before .before .before .before .less .ensures) _ (c .before .before .before .before .path-entry .ensures) _ (c .before .before .set-expression .ensures)
 
 pub path-base-spec : {M : Type 1} → statement M
 path-base-spec =

@@ -10,16 +10,13 @@ use Rattle.emit_literals.proofs.write_literals.Tie as tie
 use Rattle.emit_literals.proofs.write_literals.Reads as reads
 use Rattle.emit_literals.proofs.write_literals.Lts as lts
 use Rattle.emit_literals.proofs.write_literal.Reads as write-literal-reads
-use Rattle.token.proofs.token_in.Reads as token-in-reads
+use Rattle.token_cache.proofs.token_in.Reads as token-in-reads
 
 abbrev Inv-loop : tie.InvT-loop
-Inv-loop s p₀ l₀ classes k₀ at₀ p l k at = Passing s p₀ l₀ p l k at
+Inv-loop c s p₀ l₀ k₀ at₀ p l k at = Passing s p₀ l₀ p l k at
 
 abbrev μ-loop : tie.MeasureT-loop
-μ-loop s p₀ l₀ classes k₀ at₀ p l k at = length s - at
-
-classes-requires : tie.Need-classes-requires Inv-loop μ-loop
-classes-requires c κs = search needs
+μ-loop c s p₀ l₀ k₀ at₀ p l k at = length s - at
 
 loop-holds : tie.Need-loop-holds Inv-loop μ-loop
 loop-holds c = search passing-start
@@ -63,7 +60,6 @@ write-literals-spec =
     (tie.spec
     Inv-loop
     μ-loop
-    classes-requires
     loop-holds
     token-in-requires
     enum-known-t

@@ -15,10 +15,10 @@ use Rattle.grammar.proofs.look.Reads as look-reads
 use Rattle.table_updates.proofs.set_path_name.Reads as set-path-name-reads
 
 abbrev Inv-loop : tie.InvT-loop
-Inv-loop s begins ends count p₀ m₀ at₀ p m at = Leads NamesHere emit-path s (table-of s begins ends count) m₀ p₀ m p at
+Inv-loop c s begins ends hints count p₀ m₀ at₀ p m at = Leads NamesHere emit-path s (table-of s begins ends count) m₀ p₀ m p at
 
 abbrev μ-loop : tie.MeasureT-loop
-μ-loop s begins ends count p₀ m₀ at₀ p m at = length s - at
+μ-loop c s begins ends hints count p₀ m₀ at₀ p m at = length s - at
 
 -- src/lib.rt:35:5
 loop-holds : tie.Need-loop-holds Inv-loop μ-loop

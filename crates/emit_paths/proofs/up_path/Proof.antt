@@ -31,7 +31,8 @@ same-length c = search needs
 
 -- src/lib.rt:86:1
 returns : tie.Need-returns
-returns c = search up-emits
+returns c =
+    up-emits _ _ _ _ _ _ _ _ (c .before .before .before .before .before .before .before .before .before .before .before .before .before .before .pre .1) _ (c .before .before .before .before .before .before .before .before .before .ups .ensures) _ (c .before .before .before .before .before .before .before .before .go-to .ensures) _ _ (c .before .before .before .before .before .before .holder .ensures) _ _ (c .before .before .dotted .ensures)
 
 pub up-path-spec : {M : Type 1} → statement M
 up-path-spec =

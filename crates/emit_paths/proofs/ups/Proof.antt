@@ -11,10 +11,10 @@ use Rattle.emit_steps.proofs.less.Reads as less-reads
 use Rattle.emit_steps.proofs.pass_two.Reads as pass-two-reads
 
 abbrev Inv-loop : tie.InvT-loop
-Inv-loop s from depth at₀ d₀ at d = UpsLeads s at₀ d₀ at d
+Inv-loop c s from depth at₀ d₀ at d = UpsLeads s at₀ d₀ at d
 
 abbrev μ-loop : tie.MeasureT-loop
-μ-loop s from depth at₀ d₀ at d = length s - at
+μ-loop c s from depth at₀ d₀ at d = length s - at
 
 -- src/lib.rt:51:5
 loop-holds : tie.Need-loop-holds Inv-loop μ-loop

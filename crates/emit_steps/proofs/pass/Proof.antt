@@ -4,11 +4,11 @@ use Rattle.emit_steps.proofs.pass.Statement.{statement}
 use Rattle.emit_steps.proofs.pass.Tie as tie
 use Rattle.emit_steps.proofs.pass.Reads as reads
 use Rattle.emit_steps.proofs.pass.Lts as lts
-use Rattle.token.proofs.token_at.Reads as token-at-reads
+use Rattle.token_cache.proofs.token_in.Reads as token-in-reads
 
 -- src/lib.rt:166:9
-token-at-requires : tie.Need-token-at-requires
-token-at-requires c κs = search needs
+token-in-requires : tie.Need-token-in-requires
+token-in-requires c κs = search needs
 
 -- src/lib.rt:167:26
 enum-known-t : tie.Need-enum-known-t
@@ -27,4 +27,4 @@ returns-3 : tie.Need-returns-3
 returns-3 c = search pass-other
 
 pub pass-spec : {M : Type 1} → statement M
-pass-spec = tie.close (tie.spec token-at-requires enum-known-t returns returns-2 returns-3)
+pass-spec = tie.close (tie.spec token-in-requires enum-known-t returns returns-2 returns-3)

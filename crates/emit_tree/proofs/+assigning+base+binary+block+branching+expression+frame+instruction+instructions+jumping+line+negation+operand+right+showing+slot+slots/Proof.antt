@@ -88,183 +88,183 @@ use Rattle.emit_tree.proofs.+assigning+base+binary+block+branching+expr
   close,
 }
 
-abbrev μ-assigning : Measures 4 assigning-kinds.ps ℕ
-μ-assigning κs a = 16 * (length (a .0 .now) - a .1 .1 .1 .1 .1 .1 .1 .0 .at) + 6
+abbrev μ-assigning : Measures 6 assigning-kinds.ps ℕ
+μ-assigning κs a = 16 * (length (a .1 .0 .now) - a .1 .1 .1 .1 .1 .1 .1 .1 .1 .0 .at) + 6
 
-abbrev μ-base : Measures 4 base-kinds.ps ℕ
-μ-base κs a = 16 * (length (a .0 .now) - a .1 .1 .1 .1 .1 .1 .1 .0 .at) + 1
+abbrev μ-base : Measures 6 base-kinds.ps ℕ
+μ-base κs a = 16 * (length (a .1 .0 .now) - a .1 .1 .1 .1 .1 .1 .1 .1 .1 .0 .at) + 1
 
-abbrev μ-binary : Measures 4 binary-kinds.ps ℕ
-μ-binary κs a = 16 * (length (a .0 .now) - a .1 .1 .1 .1 .1 .1 .1 .0 .at) + 3
+abbrev μ-binary : Measures 6 binary-kinds.ps ℕ
+μ-binary κs a = 16 * (length (a .1 .0 .now) - a .1 .1 .1 .1 .1 .1 .1 .1 .1 .0 .at) + 3
 
-abbrev μ-block : Measures 4 block-kinds.ps ℕ
-μ-block κs a = 16 * (length (a .0 .now) - a .1 .1 .1 .1 .1 .1 .1 .0 .at) + 0
+abbrev μ-block : Measures 6 block-kinds.ps ℕ
+μ-block κs a = 16 * (length (a .1 .0 .now) - a .1 .1 .1 .1 .1 .1 .1 .1 .1 .0 .at) + 0
 
-abbrev μ-branching : Measures 4 branching-kinds.ps ℕ
-μ-branching κs a = 16 * (length (a .0 .now) - a .1 .1 .1 .1 .1 .1 .1 .0 .at) + 3
+abbrev μ-branching : Measures 6 branching-kinds.ps ℕ
+μ-branching κs a = 16 * (length (a .1 .0 .now) - a .1 .1 .1 .1 .1 .1 .1 .1 .1 .0 .at) + 3
 
-abbrev μ-expression : Measures 4 expression-kinds.ps ℕ
-μ-expression κs a = 16 * (length (a .0 .now) - a .1 .1 .1 .1 .1 .1 .1 .1 .0 .at) + 4
+abbrev μ-expression : Measures 6 expression-kinds.ps ℕ
+μ-expression κs a = 16 * (length (a .1 .0 .now) - a .1 .1 .1 .1 .1 .1 .1 .1 .1 .1 .0 .at) + 4
 
-abbrev μ-frame : Measures 4 frame-kinds.ps ℕ
-μ-frame κs a = 16 * (length (a .0 .now) - a .1 .1 .1 .1 .1 .1 .1 .0 .at) + 0
+abbrev μ-frame : Measures 6 frame-kinds.ps ℕ
+μ-frame κs a = 16 * (length (a .1 .0 .now) - a .1 .1 .1 .1 .1 .1 .1 .1 .1 .0 .at) + 0
 
-abbrev μ-instruction : Measures 4 instruction-kinds.ps ℕ
-μ-instruction κs a = 16 * (length (a .0 .now) - a .1 .1 .1 .1 .1 .1 .1 .0 .at) + 7
+abbrev μ-instruction : Measures 6 instruction-kinds.ps ℕ
+μ-instruction κs a = 16 * (length (a .1 .0 .now) - a .1 .1 .1 .1 .1 .1 .1 .1 .1 .0 .at) + 7
 
-abbrev μ-instructions : Measures 4 instructions-kinds.ps ℕ
-μ-instructions κs a = 16 * (length (a .0 .now) - a .1 .1 .1 .1 .1 .1 .0 .at) + 9
+abbrev μ-instructions : Measures 6 instructions-kinds.ps ℕ
+μ-instructions κs a = 16 * (length (a .1 .0 .now) - a .1 .1 .1 .1 .1 .1 .1 .1 .0 .at) + 9
 
-abbrev μ-jumping : Measures 4 jumping-kinds.ps ℕ
-μ-jumping κs a = 16 * (length (a .0 .now) - a .1 .1 .1 .1 .1 .1 .1 .0 .at) + 3
+abbrev μ-jumping : Measures 6 jumping-kinds.ps ℕ
+μ-jumping κs a = 16 * (length (a .1 .0 .now) - a .1 .1 .1 .1 .1 .1 .1 .1 .1 .0 .at) + 3
 
-abbrev μ-line : Measures 4 line-kinds.ps ℕ
-μ-line κs a = 16 * (length (a .0 .now) - a .1 .1 .1 .1 .1 .1 .0 .at) + 8
+abbrev μ-line : Measures 6 line-kinds.ps ℕ
+μ-line κs a = 16 * (length (a .1 .0 .now) - a .1 .1 .1 .1 .1 .1 .1 .1 .0 .at) + 8
 
-abbrev μ-negation : Measures 4 negation-kinds.ps ℕ
-μ-negation κs a = 16 * (length (a .0 .now) - a .1 .1 .1 .1 .1 .1 .1 .0 .at) + 3
+abbrev μ-negation : Measures 6 negation-kinds.ps ℕ
+μ-negation κs a = 16 * (length (a .1 .0 .now) - a .1 .1 .1 .1 .1 .1 .1 .1 .1 .0 .at) + 3
 
-abbrev μ-operand : Measures 4 operand-kinds.ps ℕ
-μ-operand κs a = 16 * (length (a .0 .now) - a .1 .1 .1 .1 .1 .1 .0 .at) + 2
+abbrev μ-operand : Measures 6 operand-kinds.ps ℕ
+μ-operand κs a = 16 * (length (a .1 .0 .now) - a .1 .1 .1 .1 .1 .1 .1 .1 .0 .at) + 2
 
-abbrev μ-right : Measures 4 right-kinds.ps ℕ
-μ-right κs a = 16 * (length (a .0 .now) - a .1 .1 .1 .1 .1 .1 .1 .0 .at) + 5
+abbrev μ-right : Measures 6 right-kinds.ps ℕ
+μ-right κs a = 16 * (length (a .1 .0 .now) - a .1 .1 .1 .1 .1 .1 .1 .1 .1 .0 .at) + 5
 
-abbrev μ-showing : Measures 4 showing-kinds.ps ℕ
-μ-showing κs a = 16 * (length (a .0 .now) - a .1 .1 .1 .1 .1 .1 .1 .0 .at) + 3
+abbrev μ-showing : Measures 6 showing-kinds.ps ℕ
+μ-showing κs a = 16 * (length (a .1 .0 .now) - a .1 .1 .1 .1 .1 .1 .1 .1 .1 .0 .at) + 3
 
-abbrev μ-slot : Measures 4 slot-kinds.ps ℕ
-μ-slot κs a = 16 * (length (a .0 .now) - a .1 .1 .1 .1 .1 .1 .1 .0) + 6
+abbrev μ-slot : Measures 6 slot-kinds.ps ℕ
+μ-slot κs a = 16 * (length (a .1 .0 .now) - a .1 .1 .1 .1 .1 .1 .1 .1 .1 .0) + 6
 
-abbrev μ-slots : Measures 4 slots-kinds.ps ℕ
-μ-slots κs a = 16 * (length (a .0 .now) - a .1 .1 .1 .1 .1 .1 .0 .at) + 7
+abbrev μ-slots : Measures 6 slots-kinds.ps ℕ
+μ-slots κs a = 16 * (length (a .1 .0 .now) - a .1 .1 .1 .1 .1 .1 .1 .1 .0 .at) + 7
 
-abbrev assigning-at : ℕ → In 4 assigning-kinds.ps
-assigning-at t = and 4 assigning-kinds.ps (is 4 assigning-kinds.ps μ-assigning t) assigning.Pre
+abbrev assigning-at : ℕ → In 6 assigning-kinds.ps
+assigning-at t = and 6 assigning-kinds.ps (is 6 assigning-kinds.ps μ-assigning t) assigning.Pre
 
-abbrev assigning-below : ℕ → In 4 assigning-kinds.ps
+abbrev assigning-below : ℕ → In 6 assigning-kinds.ps
 assigning-below t =
-    and 4 assigning-kinds.ps (falls 4 assigning-kinds.ps _<_ μ-assigning t) assigning.Pre
+    and 6 assigning-kinds.ps (falls 6 assigning-kinds.ps _<_ μ-assigning t) assigning.Pre
 
-abbrev base-at : ℕ → In 4 base-kinds.ps
-base-at t = and 4 base-kinds.ps (is 4 base-kinds.ps μ-base t) base.Pre
+abbrev base-at : ℕ → In 6 base-kinds.ps
+base-at t = and 6 base-kinds.ps (is 6 base-kinds.ps μ-base t) base.Pre
 
-abbrev base-below : ℕ → In 4 base-kinds.ps
-base-below t = and 4 base-kinds.ps (falls 4 base-kinds.ps _<_ μ-base t) base.Pre
+abbrev base-below : ℕ → In 6 base-kinds.ps
+base-below t = and 6 base-kinds.ps (falls 6 base-kinds.ps _<_ μ-base t) base.Pre
 
-abbrev binary-at : ℕ → In 4 binary-kinds.ps
-binary-at t = and 4 binary-kinds.ps (is 4 binary-kinds.ps μ-binary t) binary.Pre
+abbrev binary-at : ℕ → In 6 binary-kinds.ps
+binary-at t = and 6 binary-kinds.ps (is 6 binary-kinds.ps μ-binary t) binary.Pre
 
-abbrev binary-below : ℕ → In 4 binary-kinds.ps
-binary-below t = and 4 binary-kinds.ps (falls 4 binary-kinds.ps _<_ μ-binary t) binary.Pre
+abbrev binary-below : ℕ → In 6 binary-kinds.ps
+binary-below t = and 6 binary-kinds.ps (falls 6 binary-kinds.ps _<_ μ-binary t) binary.Pre
 
-abbrev block-at : ℕ → In 4 block-kinds.ps
-block-at t = and 4 block-kinds.ps (is 4 block-kinds.ps μ-block t) block.Pre
+abbrev block-at : ℕ → In 6 block-kinds.ps
+block-at t = and 6 block-kinds.ps (is 6 block-kinds.ps μ-block t) block.Pre
 
-abbrev block-below : ℕ → In 4 block-kinds.ps
-block-below t = and 4 block-kinds.ps (falls 4 block-kinds.ps _<_ μ-block t) block.Pre
+abbrev block-below : ℕ → In 6 block-kinds.ps
+block-below t = and 6 block-kinds.ps (falls 6 block-kinds.ps _<_ μ-block t) block.Pre
 
-abbrev branching-at : ℕ → In 4 branching-kinds.ps
-branching-at t = and 4 branching-kinds.ps (is 4 branching-kinds.ps μ-branching t) branching.Pre
+abbrev branching-at : ℕ → In 6 branching-kinds.ps
+branching-at t = and 6 branching-kinds.ps (is 6 branching-kinds.ps μ-branching t) branching.Pre
 
-abbrev branching-below : ℕ → In 4 branching-kinds.ps
+abbrev branching-below : ℕ → In 6 branching-kinds.ps
 branching-below t =
-    and 4 branching-kinds.ps (falls 4 branching-kinds.ps _<_ μ-branching t) branching.Pre
+    and 6 branching-kinds.ps (falls 6 branching-kinds.ps _<_ μ-branching t) branching.Pre
 
-abbrev expression-at : ℕ → In 4 expression-kinds.ps
+abbrev expression-at : ℕ → In 6 expression-kinds.ps
 expression-at t =
-    and 4 expression-kinds.ps (is 4 expression-kinds.ps μ-expression t) expression.Pre
+    and 6 expression-kinds.ps (is 6 expression-kinds.ps μ-expression t) expression.Pre
 
-abbrev expression-below : ℕ → In 4 expression-kinds.ps
+abbrev expression-below : ℕ → In 6 expression-kinds.ps
 expression-below t =
-    and 4 expression-kinds.ps (falls 4 expression-kinds.ps _<_ μ-expression t) expression.Pre
+    and 6 expression-kinds.ps (falls 6 expression-kinds.ps _<_ μ-expression t) expression.Pre
 
-abbrev frame-at : ℕ → In 4 frame-kinds.ps
-frame-at t = and 4 frame-kinds.ps (is 4 frame-kinds.ps μ-frame t) frame.Pre
+abbrev frame-at : ℕ → In 6 frame-kinds.ps
+frame-at t = and 6 frame-kinds.ps (is 6 frame-kinds.ps μ-frame t) frame.Pre
 
-abbrev frame-below : ℕ → In 4 frame-kinds.ps
-frame-below t = and 4 frame-kinds.ps (falls 4 frame-kinds.ps _<_ μ-frame t) frame.Pre
+abbrev frame-below : ℕ → In 6 frame-kinds.ps
+frame-below t = and 6 frame-kinds.ps (falls 6 frame-kinds.ps _<_ μ-frame t) frame.Pre
 
-abbrev instruction-at : ℕ → In 4 instruction-kinds.ps
+abbrev instruction-at : ℕ → In 6 instruction-kinds.ps
 instruction-at t =
-    and 4 instruction-kinds.ps (is 4 instruction-kinds.ps μ-instruction t) instruction.Pre
+    and 6 instruction-kinds.ps (is 6 instruction-kinds.ps μ-instruction t) instruction.Pre
 
-abbrev instruction-below : ℕ → In 4 instruction-kinds.ps
+abbrev instruction-below : ℕ → In 6 instruction-kinds.ps
 instruction-below t =
-    and 4 instruction-kinds.ps (falls 4 instruction-kinds.ps _<_ μ-instruction t) instruction.Pre
+    and 6 instruction-kinds.ps (falls 6 instruction-kinds.ps _<_ μ-instruction t) instruction.Pre
 
-abbrev instructions-at : ℕ → In 4 instructions-kinds.ps
+abbrev instructions-at : ℕ → In 6 instructions-kinds.ps
 instructions-at t =
-    and 4 instructions-kinds.ps (is 4 instructions-kinds.ps μ-instructions t) instructions.Pre
+    and 6 instructions-kinds.ps (is 6 instructions-kinds.ps μ-instructions t) instructions.Pre
 
-abbrev instructions-below : ℕ → In 4 instructions-kinds.ps
+abbrev instructions-below : ℕ → In 6 instructions-kinds.ps
 instructions-below t =
     and
-    4
+    6
     instructions-kinds.ps
-    (falls 4 instructions-kinds.ps _<_ μ-instructions t)
+    (falls 6 instructions-kinds.ps _<_ μ-instructions t)
     instructions.Pre
 
-abbrev jumping-at : ℕ → In 4 jumping-kinds.ps
-jumping-at t = and 4 jumping-kinds.ps (is 4 jumping-kinds.ps μ-jumping t) jumping.Pre
+abbrev jumping-at : ℕ → In 6 jumping-kinds.ps
+jumping-at t = and 6 jumping-kinds.ps (is 6 jumping-kinds.ps μ-jumping t) jumping.Pre
 
-abbrev jumping-below : ℕ → In 4 jumping-kinds.ps
-jumping-below t = and 4 jumping-kinds.ps (falls 4 jumping-kinds.ps _<_ μ-jumping t) jumping.Pre
+abbrev jumping-below : ℕ → In 6 jumping-kinds.ps
+jumping-below t = and 6 jumping-kinds.ps (falls 6 jumping-kinds.ps _<_ μ-jumping t) jumping.Pre
 
-abbrev line-at : ℕ → In 4 line-kinds.ps
-line-at t = and 4 line-kinds.ps (is 4 line-kinds.ps μ-line t) line.Pre
+abbrev line-at : ℕ → In 6 line-kinds.ps
+line-at t = and 6 line-kinds.ps (is 6 line-kinds.ps μ-line t) line.Pre
 
-abbrev line-below : ℕ → In 4 line-kinds.ps
-line-below t = and 4 line-kinds.ps (falls 4 line-kinds.ps _<_ μ-line t) line.Pre
+abbrev line-below : ℕ → In 6 line-kinds.ps
+line-below t = and 6 line-kinds.ps (falls 6 line-kinds.ps _<_ μ-line t) line.Pre
 
-abbrev negation-at : ℕ → In 4 negation-kinds.ps
-negation-at t = and 4 negation-kinds.ps (is 4 negation-kinds.ps μ-negation t) negation.Pre
+abbrev negation-at : ℕ → In 6 negation-kinds.ps
+negation-at t = and 6 negation-kinds.ps (is 6 negation-kinds.ps μ-negation t) negation.Pre
 
-abbrev negation-below : ℕ → In 4 negation-kinds.ps
+abbrev negation-below : ℕ → In 6 negation-kinds.ps
 negation-below t =
-    and 4 negation-kinds.ps (falls 4 negation-kinds.ps _<_ μ-negation t) negation.Pre
+    and 6 negation-kinds.ps (falls 6 negation-kinds.ps _<_ μ-negation t) negation.Pre
 
-abbrev operand-at : ℕ → In 4 operand-kinds.ps
-operand-at t = and 4 operand-kinds.ps (is 4 operand-kinds.ps μ-operand t) operand.Pre
+abbrev operand-at : ℕ → In 6 operand-kinds.ps
+operand-at t = and 6 operand-kinds.ps (is 6 operand-kinds.ps μ-operand t) operand.Pre
 
-abbrev operand-below : ℕ → In 4 operand-kinds.ps
-operand-below t = and 4 operand-kinds.ps (falls 4 operand-kinds.ps _<_ μ-operand t) operand.Pre
+abbrev operand-below : ℕ → In 6 operand-kinds.ps
+operand-below t = and 6 operand-kinds.ps (falls 6 operand-kinds.ps _<_ μ-operand t) operand.Pre
 
-abbrev right-at : ℕ → In 4 right-kinds.ps
-right-at t = and 4 right-kinds.ps (is 4 right-kinds.ps μ-right t) right.Pre
+abbrev right-at : ℕ → In 6 right-kinds.ps
+right-at t = and 6 right-kinds.ps (is 6 right-kinds.ps μ-right t) right.Pre
 
-abbrev right-below : ℕ → In 4 right-kinds.ps
-right-below t = and 4 right-kinds.ps (falls 4 right-kinds.ps _<_ μ-right t) right.Pre
+abbrev right-below : ℕ → In 6 right-kinds.ps
+right-below t = and 6 right-kinds.ps (falls 6 right-kinds.ps _<_ μ-right t) right.Pre
 
-abbrev showing-at : ℕ → In 4 showing-kinds.ps
-showing-at t = and 4 showing-kinds.ps (is 4 showing-kinds.ps μ-showing t) showing.Pre
+abbrev showing-at : ℕ → In 6 showing-kinds.ps
+showing-at t = and 6 showing-kinds.ps (is 6 showing-kinds.ps μ-showing t) showing.Pre
 
-abbrev showing-below : ℕ → In 4 showing-kinds.ps
-showing-below t = and 4 showing-kinds.ps (falls 4 showing-kinds.ps _<_ μ-showing t) showing.Pre
+abbrev showing-below : ℕ → In 6 showing-kinds.ps
+showing-below t = and 6 showing-kinds.ps (falls 6 showing-kinds.ps _<_ μ-showing t) showing.Pre
 
-abbrev slot-at : ℕ → In 4 slot-kinds.ps
-slot-at t = and 4 slot-kinds.ps (is 4 slot-kinds.ps μ-slot t) slot.Pre
+abbrev slot-at : ℕ → In 6 slot-kinds.ps
+slot-at t = and 6 slot-kinds.ps (is 6 slot-kinds.ps μ-slot t) slot.Pre
 
-abbrev slot-below : ℕ → In 4 slot-kinds.ps
-slot-below t = and 4 slot-kinds.ps (falls 4 slot-kinds.ps _<_ μ-slot t) slot.Pre
+abbrev slot-below : ℕ → In 6 slot-kinds.ps
+slot-below t = and 6 slot-kinds.ps (falls 6 slot-kinds.ps _<_ μ-slot t) slot.Pre
 
-abbrev slots-at : ℕ → In 4 slots-kinds.ps
-slots-at t = and 4 slots-kinds.ps (is 4 slots-kinds.ps μ-slots t) slots.Pre
+abbrev slots-at : ℕ → In 6 slots-kinds.ps
+slots-at t = and 6 slots-kinds.ps (is 6 slots-kinds.ps μ-slots t) slots.Pre
 
-abbrev slots-below : ℕ → In 4 slots-kinds.ps
-slots-below t = and 4 slots-kinds.ps (falls 4 slots-kinds.ps _<_ μ-slots t) slots.Pre
+abbrev slots-below : ℕ → In 6 slots-kinds.ps
+slots-below t = and 6 slots-kinds.ps (falls 6 slots-kinds.ps _<_ μ-slots t) slots.Pre
 
 abbrev instructions-Inv-loop : instructions-lts.InvT-loop
-instructions-Inv-loop s begins ends count p₀ place m₀ t₀ p m t = Going (CodeHere place) (code-emitted place) s (table-of s begins ends count) m₀ p₀ m p t
+instructions-Inv-loop c s begins ends hints count p₀ place m₀ t₀ p m t = Going (CodeHere place) (code-emitted place) s (table-of s begins ends count) m₀ p₀ m p t
 
 abbrev instructions-μ-loop : instructions-lts.MeasureT-loop
-instructions-μ-loop s begins ends count p₀ place m₀ t₀ p m t = length s - m .at
+instructions-μ-loop c s begins ends hints count p₀ place m₀ t₀ p m t = length s - m .at
 
 abbrev slots-Inv-loop : slots-lts.InvT-loop
-slots-Inv-loop s begins ends count p₀ place m₀ t₀ p m t = Going (SlotsHere place) (slots-emitted place) s (table-of s begins ends count) m₀ p₀ m p t
+slots-Inv-loop c s begins ends hints count p₀ place m₀ t₀ p m t = Going (SlotsHere place) (slots-emitted place) s (table-of s begins ends count) m₀ p₀ m p t
 
 abbrev slots-μ-loop : slots-lts.MeasureT-loop
-slots-μ-loop s begins ends count p₀ place m₀ t₀ p m t = length s - m .at
+slots-μ-loop c s begins ends hints count p₀ place m₀ t₀ p m t = length s - m .at
 
 pub +assigning+base+binary+block+branching+expression+frame+instruction+instructions+jumping+line+negation+operand+right+showing+slot+slots-spec :
     {M : Type 1} → statement M
@@ -292,7 +292,7 @@ pub +assigning+base+binary+block+branching+expression+frame+instruction+instruct
     (assigning-at t)
     assigning.Post
     (λ c κs. search needs)
-    (λ c κs. (omega arith, tt))
+    (λ c κs. (omega arith, (c .before .before .before .before .before .before .before .before .before .pre .1 .0)))
     (λ c. search needs)
     (λ c. search assign-done))
     (λ t. base-lts.spec
@@ -316,9 +316,9 @@ pub +assigning+base+binary+block+branching+expression+frame+instruction+instruct
     (binary-at t)
     binary.Post
     (λ c κs. search needs)
-    (λ c κs. (search binary-falls, search seen-expression))
-    (λ c κs. search needs)
-    (λ c κs. (search binary-falls-2, tt))
+    (λ c κs. (search binary-falls, ((c .before .before .before .before .before .before .pre .1 .0), search seen-expression)))
+    (λ c κs. (c .before .before .before .before .before .before .before .before .before .before .pre .1 .0 .cached))
+    (λ c κs. (search binary-falls-2, (c .before .before .before .before .before .before .before .before .before .before .before .before .before .before .pre .1 .0)))
     (λ c. search needs)
     (λ c. search binary-done))
     (λ t. block-lts.spec
@@ -329,8 +329,8 @@ pub +assigning+base+binary+block+branching+expression+frame+instruction+instruct
     (λ c. search needs)
     (λ c. search block-none)
     (λ c κs. search needs)
-    (λ c κs. (search block-falls, search needs))
-    (λ c κs. search needs)
+    (λ c κs. (search block-falls, ((c .before .before .before .before .before .before .before .before .before .before .before .before .before .before .before .pre .1 .0), search needs)))
+    (λ c κs. (c .before .before .before .before .before .before .before .before .before .before .before .before .before .before .before .before .before .before .pre .1 .0 .cached))
     (λ c. search needs)
     (λ c. block-done _ _ _ _ _ _ _ _ (c .before .before .before .before .before .before .before .before .before .before .before .before .before .open-block .ensures .done) _ (c .before .before .before .before .before .before .within-code .ensures) _ _ (c .before .before .before .instructions .ensures) _ (c .skip .ensures)))
     (λ t. branching-lts.spec
@@ -338,12 +338,12 @@ pub +assigning+base+binary+block+branching+expression+frame+instruction+instruct
     (branching-at t)
     branching.Post
     (λ c κs. search needs)
-    (λ c κs. (search first-falls, tt))
-    (λ c κs. (search second-falls, tt))
+    (λ c κs. (search first-falls, (c .before .before .before .before .before .before .pre .1 .0)))
+    (λ c κs. (search second-falls, (c .before .before .before .before .before .before .before .before .before .before .pre .1 .0)))
     (λ c κs. search needs)
-    (λ c κs. (third-falls _ _ _ (c .before .before .before .before .before .before .before .before .before .before .before .before .before .before .before .before .before .before .pre .1) _ (c .before .before .before .before .before .before .before .before .before .before .before .before .before .go-to .ensures) _ _ (c .before .before .before .before .before .before .before .before .before .before .before .operand .ensures .on) (c .before .before .before .before .before .before .before .operand2 .ensures .on) _ (c .before .before .before .before .before .before .before .before .before .before .before .before .before .before .before .before .before .before .pre .0), tt))
+    (λ c κs. (third-falls _ _ _ (c .before .before .before .before .before .before .before .before .before .before .before .before .before .before .before .before .before .before .pre .1 .1) _ (c .before .before .before .before .before .before .before .before .before .before .before .before .before .go-to .ensures) _ _ (c .before .before .before .before .before .before .before .before .before .before .before .operand .ensures .on) (c .before .before .before .before .before .before .before .operand2 .ensures .on) _ (c .before .before .before .before .before .before .before .before .before .before .before .before .before .before .before .before .before .before .pre .0), (c .before .before .before .before .before .before .before .before .before .before .before .before .before .before .before .before .before .before .pre .1 .0)))
     (λ c. search needs)
-    (λ c. ifeq-done _ _ _ _ _ _ _ (c .before .before .before .before .before .before .before .before .before .before .before .before .before .before .before .before .before .before .before .before .before .pre .1) _ (c .before .before .before .before .before .before .before .before .before .before .before .before .before .before .before .before .go-to .ensures) _ _ (c .before .before .before .before .before .before .before .before .before .before .before .before .before .before .operand .ensures) _ _ (c .before .before .before .before .before .before .before .before .before .before .operand2 .ensures) _ (c .before .before .before .before .before .before .set-instruction .ensures) _ _ (c .before .before .operand3 .ensures)))
+    (λ c. ifeq-done _ _ _ _ _ _ _ (c .before .before .before .before .before .before .before .before .before .before .before .before .before .before .before .before .before .before .before .before .before .pre .1 .1) _ (c .before .before .before .before .before .before .before .before .before .before .before .before .before .before .before .before .go-to .ensures) _ _ (c .before .before .before .before .before .before .before .before .before .before .before .before .before .before .operand .ensures) _ _ (c .before .before .before .before .before .before .before .before .before .before .operand2 .ensures) _ (c .before .before .before .before .before .before .set-instruction .ensures) _ _ (c .before .before .operand3 .ensures)))
     (λ t. expression-lts.spec
     (frame-below t, frame.Post, negation-below t, negation.Post, operator-after-reads.Asked, operator-after-reads.Learnt, binary-below t, binary.Post, base-below t, base.Post)
     (expression-at t)
@@ -357,10 +357,10 @@ pub +assigning+base+binary+block+branching+expression+frame+instruction+instruct
     (λ c κs. search needs)
     (λ c κs. (omega arith, search needs))
     (λ c. search needs)
-    (λ c. search expression-binary)
+    (λ c. search (expression-binary, (c .before .before .before .before .before .before .before .before .before .before .before .before .before .before .pre .1 .1)))
     (λ c κs. (omega arith, search needs))
     (λ c. search needs)
-    (λ c. search expression-base))
+    (λ c. search (expression-base, (c .before .before .before .before .before .before .before .before .before .before .before .before .before .before .pre .1 .1))))
     (λ t. frame-lts.spec
     (open-frame-reads.Asked, open-frame-reads.Learnt, slots-below t, slots.Post, skip-reads.Asked, skip-reads.Learnt)
     (frame-at t)
@@ -368,10 +368,10 @@ pub +assigning+base+binary+block+branching+expression+frame+instruction+instruct
     (λ c κs. search needs)
     (λ c. search needs)
     (λ c. search frame-none)
-    (λ c κs. (search frame-falls, search needs))
-    (λ c κs. search needs)
+    (λ c κs. (search frame-falls, ((c .before .before .before .before .before .before .before .before .before .before .before .before .before .before .pre .1 .0), search needs)))
+    (λ c κs. (c .before .before .before .before .before .before .before .before .before .before .before .before .before .before .before .before .before .pre .1 .0 .cached))
     (λ c. search needs)
-    (λ c. search frame-done))
+    (λ c. frame-done _ _ _ _ _ _ _ _ (c .before .before .before .before .before .before .before .before .before .before .before .before .open-frame .ensures .done) _ _ (c .before .before .before .slots .ensures) _ (c .skip .ensures)))
     (λ t. instruction-lts.spec
     (showing-below t, showing.Post, jumping-below t, jumping.Post, branching-below t, branching.Post, assigning-below t, assigning.Post)
     (instruction-at t)
@@ -384,10 +384,10 @@ pub +assigning+base+binary+block+branching+expression+frame+instruction+instruct
     (λ c. search instruction-jump)
     (λ c κs. (omega arith, search needs))
     (λ c. search needs)
-    (λ c. search instruction-ifeq)
+    (λ c. search (instruction-ifeq, (c .before .before .before .before .before .before .before .before .before .before .before .before .before .before .pre .1 .1)))
     (λ c κs. (omega arith, search needs))
     (λ c. search needs)
-    (λ c. search instruction-assign))
+    (λ c. search (instruction-assign, (c .before .before .before .before .before .before .before .before .before .before .before .before .before .before .pre .1 .1))))
     (λ t. instructions-lts.spec
     (line-below t, line.Post)
     (instructions-at t)
@@ -397,7 +397,7 @@ pub +assigning+base+binary+block+branching+expression+frame+instruction+instruct
     (λ c. search lines-start)
     (λ c. search needs)
     (λ c. search lines-none)
-    (λ c κs. (omega arith, search needs))
+    (λ c κs. (omega arith, ((c .before .before .before .before .before .before .before .before .before .before .pre .1 .0), search needs)))
     (λ c. search needs)
     (λ c. search lines-stuck)
     (λ c. omega arith)
@@ -409,18 +409,18 @@ pub +assigning+base+binary+block+branching+expression+frame+instruction+instruct
     (jumping-at t)
     jumping.Post
     (λ c κs. search needs)
-    (λ c κs. (search first-falls, tt))
+    (λ c κs. (search first-falls, (c .before .before .before .before .before .before .pre .1 .0)))
     (λ c κs. search needs)
-    (λ c κs. (search second-falls, tt))
+    (λ c κs. (search second-falls, (c .before .before .before .before .before .before .before .before .before .before .before .before .before .before .pre .1 .0)))
     (λ c. search needs)
-    (λ c. jump-done _ _ _ _ _ _ _ (c .before .before .before .before .before .before .before .before .before .before .before .before .before .before .before .before .before .pre .1) _ (c .before .before .before .before .before .before .before .before .before .before .before .before .go-to .ensures) _ _ (c .before .before .before .before .before .before .before .before .before .before .operand .ensures) _ (c .before .before .before .before .before .before .set-instruction .ensures) _ _ (c .before .before .operand2 .ensures)))
+    (λ c. jump-done _ _ _ _ _ _ _ (c .before .before .before .before .before .before .before .before .before .before .before .before .before .before .before .before .before .pre .1 .1) _ (c .before .before .before .before .before .before .before .before .before .before .before .before .go-to .ensures) _ _ (c .before .before .before .before .before .before .before .before .before .before .operand .ensures) _ (c .before .before .before .before .before .before .set-instruction .ensures) _ _ (c .before .before .operand2 .ensures)))
     (λ t. line-lts.spec
     (one-instruction-reads.Asked, one-instruction-reads.Learnt, instruction-below t, instruction.Post, close-line-reads.Asked, close-line-reads.Learnt)
     (line-at t)
     line.Post
     (λ c κs. search needs)
-    (λ c κs. (search line-falls, search seen-instruction))
-    (λ c κs. search needs)
+    (λ c κs. (search line-falls, ((c .before .before .before .before .before .before .pre .1 .0), search seen-instruction)))
+    (λ c κs. (c .before .before .before .before .before .before .before .before .before .before .pre .1 .0 .cached))
     (λ c. search needs)
     (λ c. search line-done))
     (λ t. negation-lts.spec
@@ -429,7 +429,7 @@ pub +assigning+base+binary+block+branching+expression+frame+instruction+instruct
     negation.Post
     (λ c κs. search needs)
     (λ c κs. search needs)
-    (λ c κs. (search first-falls, tt))
+    (λ c κs. (search first-falls, (c .before .before .before .before .before .before .before .before .before .before .pre .1 .0)))
     (λ c. search needs)
     (λ c. search negation-done))
     (λ t. operand-lts.spec
@@ -438,7 +438,7 @@ pub +assigning+base+binary+block+branching+expression+frame+instruction+instruct
     operand.Post
     (λ c κs. search needs)
     (λ c κs. search needs)
-    (λ c κs. (search operand-falls, search needs))
+    (λ c κs. (search operand-falls, ((c .before .before .before .before .before .before .before .pre .1), search needs)))
     (λ c. search needs)
     (λ c. search operand-done))
     (λ t. right-lts.spec
@@ -447,7 +447,7 @@ pub +assigning+base+binary+block+branching+expression+frame+instruction+instruct
     right.Post
     (λ c κs. search needs)
     (λ c κs. search needs)
-    (λ c κs. (search right-falls, search needs))
+    (λ c κs. (search right-falls, ((c .before .before .before .before .before .before .before .pre .1), search needs)))
     (λ c. search needs)
     (λ c. search right-done))
     (λ t. showing-lts.spec
@@ -456,7 +456,7 @@ pub +assigning+base+binary+block+branching+expression+frame+instruction+instruct
     showing.Post
     (λ c κs. search needs)
     (λ c κs. search needs)
-    (λ c κs. (search first-falls, tt))
+    (λ c κs. (search first-falls, (c .before .before .before .before .before .before .before .before .before .before .pre .1 .0)))
     (λ c. search needs)
     (λ c. search show-done))
     (λ t. slot-lts.spec
@@ -466,10 +466,10 @@ pub +assigning+base+binary+block+branching+expression+frame+instruction+instruct
     (λ c κs. search needs)
     (λ c κs. search needs)
     (λ c κs. search needs)
-    (λ c κs. (search slot-falls, tt))
-    (λ c κs. search needs)
+    (λ c κs. (search slot-falls, (c .before .before .before .before .before .before .before .before .before .before .before .pre .1 .0)))
+    (λ c κs. (c .before .before .before .before .before .before .before .before .before .before .before .before .before .before .before .pre .1 .0 .cached))
     (λ c. search needs)
-    (λ c. search slot-done))
+    (λ c. search (slot-done, (c .before .before .before .before .before .before .before .before .before .before .before .before .name-slot .ensures), (c .before .before .before .before .before .before .before .before .before .within-slot .ensures), (c .before .before .before .before .before .before .before .before .go-to .ensures), (c .before .before .before .before .before .before .right .ensures), (c .before .before .close-slot .ensures))))
     λ t. slots-lts.spec
     (pass-reads.Asked, pass-reads.Learnt, slot-below t, slot.Post)
     (slots-at t)
@@ -479,11 +479,11 @@ pub +assigning+base+binary+block+branching+expression+frame+instruction+instruct
     (λ c. search slots-start)
     (λ c. search needs)
     (λ c. search slots-other)
-    (λ c κs. search needs)
+    (λ c κs. (c .before .before .before .before .before .before .before .before .before .pre .1 .0 .cached))
     (λ c. search needs)
     (λ c. search slots-none)
-    (λ c κs. (omega arith, search needs))
-    (λ c. omega arith)
+    (λ c κs. (omega arith, ((c .before .before .before .before .before .before .before .before .before .before .before .before .before .pre .1 .0), search needs)))
+    (λ c. omega (arith, (c .before .before .before .before .slot .ensures .done .on), (c .before .before .before .before .before .before .before .before .before .before .before .before .before .loop .inv .seen .on)))
     (λ c. search slots-again)
     (λ c. search needs)
     (λ c. search slots-end)

@@ -64,167 +64,166 @@ use Rattle.grammar.proofs.+assigning+base+base_from+binary+block+branch
   close,
 }
 
-abbrev μ-assigning : Measures 1 assigning-kinds.ps ℕ
-μ-assigning κs a = 8 * (length (a .0 .now) - a .1 .0) + 0
+abbrev μ-assigning : Measures 2 assigning-kinds.ps ℕ
+μ-assigning κs a = 8 * (length (a .1 .0 .now) - a .1 .1 .0) + 0
 
-abbrev μ-base : Measures 1 base-kinds.ps ℕ
-μ-base κs a = 8 * (length (a .0 .now) - a .1 .0) + 2
+abbrev μ-base : Measures 2 base-kinds.ps ℕ
+μ-base κs a = 8 * (length (a .1 .0 .now) - a .1 .1 .0) + 2
 
-abbrev μ-base-from : Measures 1 base-from-kinds.ps ℕ
-μ-base-from κs a = 8 * (length (a .0 .now) - a .1 .0) + 1
+abbrev μ-base-from : Measures 2 base-from-kinds.ps ℕ
+μ-base-from κs a = 8 * (length (a .1 .0 .now) - a .1 .1 .0) + 1
 
-abbrev μ-binary : Measures 1 binary-kinds.ps ℕ
-μ-binary κs a = 8 * (length (a .0 .now) - a .1 .0) + 3
+abbrev μ-binary : Measures 2 binary-kinds.ps ℕ
+μ-binary κs a = 8 * (length (a .1 .0 .now) - a .1 .1 .0) + 3
 
-abbrev μ-block : Measures 1 block-kinds.ps ℕ
-μ-block κs a = 8 * (length (a .0 .now) - a .1 .0) + 0
+abbrev μ-block : Measures 2 block-kinds.ps ℕ
+μ-block κs a = 8 * (length (a .1 .0 .now) - a .1 .1 .0) + 0
 
-abbrev μ-branching : Measures 1 branching-kinds.ps ℕ
-μ-branching κs a = 8 * (length (a .0 .now) - a .1 .0) + 0
+abbrev μ-branching : Measures 2 branching-kinds.ps ℕ
+μ-branching κs a = 8 * (length (a .1 .0 .now) - a .1 .1 .0) + 0
 
-abbrev μ-expression : Measures 1 expression-kinds.ps ℕ
-μ-expression κs a = 8 * (length (a .0 .now) - a .1 .0) + 4
+abbrev μ-expression : Measures 2 expression-kinds.ps ℕ
+μ-expression κs a = 8 * (length (a .1 .0 .now) - a .1 .1 .0) + 4
 
-abbrev μ-frame : Measures 1 frame-kinds.ps ℕ
-μ-frame κs a = 8 * (length (a .0 .now) - a .1 .0) + 0
+abbrev μ-frame : Measures 2 frame-kinds.ps ℕ
+μ-frame κs a = 8 * (length (a .1 .0 .now) - a .1 .1 .0) + 0
 
-abbrev μ-instruction : Measures 1 instruction-kinds.ps ℕ
-μ-instruction κs a = 8 * (length (a .0 .now) - a .1 .0) + 1
+abbrev μ-instruction : Measures 2 instruction-kinds.ps ℕ
+μ-instruction κs a = 8 * (length (a .1 .0 .now) - a .1 .1 .0) + 1
 
-abbrev μ-instructions : Measures 1 instructions-kinds.ps ℕ
-μ-instructions κs a = 8 * (length (a .0 .now) - a .1 .0) + 2
+abbrev μ-instructions : Measures 2 instructions-kinds.ps ℕ
+μ-instructions κs a = 8 * (length (a .1 .0 .now) - a .1 .1 .0) + 2
 
-abbrev μ-jumping : Measures 1 jumping-kinds.ps ℕ
-μ-jumping κs a = 8 * (length (a .0 .now) - a .1 .0) + 0
+abbrev μ-jumping : Measures 2 jumping-kinds.ps ℕ
+μ-jumping κs a = 8 * (length (a .1 .0 .now) - a .1 .1 .0) + 0
 
-abbrev μ-negation : Measures 1 negation-kinds.ps ℕ
-μ-negation κs a = 8 * (length (a .0 .now) - a .1 .0) + 0
+abbrev μ-negation : Measures 2 negation-kinds.ps ℕ
+μ-negation κs a = 8 * (length (a .1 .0 .now) - a .1 .1 .0) + 0
 
-abbrev μ-operation : Measures 1 operation-kinds.ps ℕ
-μ-operation κs a = 8 * (length (a .0 .now) - a .1 .0) + 0
+abbrev μ-operation : Measures 2 operation-kinds.ps ℕ
+μ-operation κs a = 8 * (length (a .1 .0 .now) - a .1 .1 .0) + 0
 
-abbrev μ-showing : Measures 1 showing-kinds.ps ℕ
-μ-showing κs a = 8 * (length (a .0 .now) - a .1 .0) + 0
+abbrev μ-showing : Measures 2 showing-kinds.ps ℕ
+μ-showing κs a = 8 * (length (a .1 .0 .now) - a .1 .1 .0) + 0
 
-abbrev μ-slots : Measures 1 slots-kinds.ps ℕ
-μ-slots κs a = 8 * (length (a .0 .now) - a .1 .0) + 0
+abbrev μ-slots : Measures 2 slots-kinds.ps ℕ
+μ-slots κs a = 8 * (length (a .1 .0 .now) - a .1 .1 .0) + 0
 
-abbrev assigning-at : ℕ → In 1 assigning-kinds.ps
-assigning-at t = and 1 assigning-kinds.ps (is 1 assigning-kinds.ps μ-assigning t) assigning.Pre
+abbrev assigning-at : ℕ → In 2 assigning-kinds.ps
+assigning-at t = and 2 assigning-kinds.ps (is 2 assigning-kinds.ps μ-assigning t) assigning.Pre
 
-abbrev assigning-below : ℕ → In 1 assigning-kinds.ps
+abbrev assigning-below : ℕ → In 2 assigning-kinds.ps
 assigning-below t =
-    and 1 assigning-kinds.ps (falls 1 assigning-kinds.ps _<_ μ-assigning t) assigning.Pre
+    and 2 assigning-kinds.ps (falls 2 assigning-kinds.ps _<_ μ-assigning t) assigning.Pre
 
-abbrev base-at : ℕ → In 1 base-kinds.ps
-base-at t = and 1 base-kinds.ps (is 1 base-kinds.ps μ-base t) base.Pre
+abbrev base-at : ℕ → In 2 base-kinds.ps
+base-at t = and 2 base-kinds.ps (is 2 base-kinds.ps μ-base t) base.Pre
 
-abbrev base-below : ℕ → In 1 base-kinds.ps
-base-below t = and 1 base-kinds.ps (falls 1 base-kinds.ps _<_ μ-base t) base.Pre
+abbrev base-below : ℕ → In 2 base-kinds.ps
+base-below t = and 2 base-kinds.ps (falls 2 base-kinds.ps _<_ μ-base t) base.Pre
 
-abbrev base-from-at : ℕ → In 1 base-from-kinds.ps
-base-from-at t = and 1 base-from-kinds.ps (is 1 base-from-kinds.ps μ-base-from t) base-from.Pre
+abbrev base-from-at : ℕ → In 2 base-from-kinds.ps
+base-from-at t = and 2 base-from-kinds.ps (is 2 base-from-kinds.ps μ-base-from t) base-from.Pre
 
-abbrev base-from-below : ℕ → In 1 base-from-kinds.ps
+abbrev base-from-below : ℕ → In 2 base-from-kinds.ps
 base-from-below t =
-    and 1 base-from-kinds.ps (falls 1 base-from-kinds.ps _<_ μ-base-from t) base-from.Pre
+    and 2 base-from-kinds.ps (falls 2 base-from-kinds.ps _<_ μ-base-from t) base-from.Pre
 
-abbrev binary-at : ℕ → In 1 binary-kinds.ps
-binary-at t = and 1 binary-kinds.ps (is 1 binary-kinds.ps μ-binary t) binary.Pre
+abbrev binary-at : ℕ → In 2 binary-kinds.ps
+binary-at t = and 2 binary-kinds.ps (is 2 binary-kinds.ps μ-binary t) binary.Pre
 
-abbrev binary-below : ℕ → In 1 binary-kinds.ps
-binary-below t = and 1 binary-kinds.ps (falls 1 binary-kinds.ps _<_ μ-binary t) binary.Pre
+abbrev binary-below : ℕ → In 2 binary-kinds.ps
+binary-below t = and 2 binary-kinds.ps (falls 2 binary-kinds.ps _<_ μ-binary t) binary.Pre
 
-abbrev block-at : ℕ → In 1 block-kinds.ps
-block-at t = and 1 block-kinds.ps (is 1 block-kinds.ps μ-block t) block.Pre
+abbrev block-at : ℕ → In 2 block-kinds.ps
+block-at t = and 2 block-kinds.ps (is 2 block-kinds.ps μ-block t) block.Pre
 
-abbrev block-below : ℕ → In 1 block-kinds.ps
-block-below t = and 1 block-kinds.ps (falls 1 block-kinds.ps _<_ μ-block t) block.Pre
+abbrev block-below : ℕ → In 2 block-kinds.ps
+block-below t = and 2 block-kinds.ps (falls 2 block-kinds.ps _<_ μ-block t) block.Pre
 
-abbrev branching-at : ℕ → In 1 branching-kinds.ps
-branching-at t = and 1 branching-kinds.ps (is 1 branching-kinds.ps μ-branching t) branching.Pre
+abbrev branching-at : ℕ → In 2 branching-kinds.ps
+branching-at t = and 2 branching-kinds.ps (is 2 branching-kinds.ps μ-branching t) branching.Pre
 
-abbrev branching-below : ℕ → In 1 branching-kinds.ps
+abbrev branching-below : ℕ → In 2 branching-kinds.ps
 branching-below t =
-    and 1 branching-kinds.ps (falls 1 branching-kinds.ps _<_ μ-branching t) branching.Pre
+    and 2 branching-kinds.ps (falls 2 branching-kinds.ps _<_ μ-branching t) branching.Pre
 
-abbrev expression-at : ℕ → In 1 expression-kinds.ps
+abbrev expression-at : ℕ → In 2 expression-kinds.ps
 expression-at t =
-    and 1 expression-kinds.ps (is 1 expression-kinds.ps μ-expression t) expression.Pre
+    and 2 expression-kinds.ps (is 2 expression-kinds.ps μ-expression t) expression.Pre
 
-abbrev expression-below : ℕ → In 1 expression-kinds.ps
+abbrev expression-below : ℕ → In 2 expression-kinds.ps
 expression-below t =
-    and 1 expression-kinds.ps (falls 1 expression-kinds.ps _<_ μ-expression t) expression.Pre
+    and 2 expression-kinds.ps (falls 2 expression-kinds.ps _<_ μ-expression t) expression.Pre
 
-abbrev frame-at : ℕ → In 1 frame-kinds.ps
-frame-at t = and 1 frame-kinds.ps (is 1 frame-kinds.ps μ-frame t) frame.Pre
+abbrev frame-at : ℕ → In 2 frame-kinds.ps
+frame-at t = and 2 frame-kinds.ps (is 2 frame-kinds.ps μ-frame t) frame.Pre
 
-abbrev frame-below : ℕ → In 1 frame-kinds.ps
-frame-below t = and 1 frame-kinds.ps (falls 1 frame-kinds.ps _<_ μ-frame t) frame.Pre
+abbrev frame-below : ℕ → In 2 frame-kinds.ps
+frame-below t = and 2 frame-kinds.ps (falls 2 frame-kinds.ps _<_ μ-frame t) frame.Pre
 
-abbrev instruction-at : ℕ → In 1 instruction-kinds.ps
+abbrev instruction-at : ℕ → In 2 instruction-kinds.ps
 instruction-at t =
-    and 1 instruction-kinds.ps (is 1 instruction-kinds.ps μ-instruction t) instruction.Pre
+    and 2 instruction-kinds.ps (is 2 instruction-kinds.ps μ-instruction t) instruction.Pre
 
-abbrev instruction-below : ℕ → In 1 instruction-kinds.ps
+abbrev instruction-below : ℕ → In 2 instruction-kinds.ps
 instruction-below t =
-    and 1 instruction-kinds.ps (falls 1 instruction-kinds.ps _<_ μ-instruction t) instruction.Pre
+    and 2 instruction-kinds.ps (falls 2 instruction-kinds.ps _<_ μ-instruction t) instruction.Pre
 
-abbrev instructions-at : ℕ → In 1 instructions-kinds.ps
+abbrev instructions-at : ℕ → In 2 instructions-kinds.ps
 instructions-at t =
-    and 1 instructions-kinds.ps (is 1 instructions-kinds.ps μ-instructions t) instructions.Pre
+    and 2 instructions-kinds.ps (is 2 instructions-kinds.ps μ-instructions t) instructions.Pre
 
-abbrev instructions-below : ℕ → In 1 instructions-kinds.ps
+abbrev instructions-below : ℕ → In 2 instructions-kinds.ps
 instructions-below t =
     and
-    1
-    instructions-kinds.ps
-    (falls 1 instructions-kinds.ps _<_ μ-instructions t)
+    2 instructions-kinds.ps
+    (falls 2 instructions-kinds.ps _<_ μ-instructions t)
     instructions.Pre
 
-abbrev jumping-at : ℕ → In 1 jumping-kinds.ps
-jumping-at t = and 1 jumping-kinds.ps (is 1 jumping-kinds.ps μ-jumping t) jumping.Pre
+abbrev jumping-at : ℕ → In 2 jumping-kinds.ps
+jumping-at t = and 2 jumping-kinds.ps (is 2 jumping-kinds.ps μ-jumping t) jumping.Pre
 
-abbrev jumping-below : ℕ → In 1 jumping-kinds.ps
-jumping-below t = and 1 jumping-kinds.ps (falls 1 jumping-kinds.ps _<_ μ-jumping t) jumping.Pre
+abbrev jumping-below : ℕ → In 2 jumping-kinds.ps
+jumping-below t = and 2 jumping-kinds.ps (falls 2 jumping-kinds.ps _<_ μ-jumping t) jumping.Pre
 
-abbrev negation-at : ℕ → In 1 negation-kinds.ps
-negation-at t = and 1 negation-kinds.ps (is 1 negation-kinds.ps μ-negation t) negation.Pre
+abbrev negation-at : ℕ → In 2 negation-kinds.ps
+negation-at t = and 2 negation-kinds.ps (is 2 negation-kinds.ps μ-negation t) negation.Pre
 
-abbrev negation-below : ℕ → In 1 negation-kinds.ps
+abbrev negation-below : ℕ → In 2 negation-kinds.ps
 negation-below t =
-    and 1 negation-kinds.ps (falls 1 negation-kinds.ps _<_ μ-negation t) negation.Pre
+    and 2 negation-kinds.ps (falls 2 negation-kinds.ps _<_ μ-negation t) negation.Pre
 
-abbrev operation-at : ℕ → In 1 operation-kinds.ps
-operation-at t = and 1 operation-kinds.ps (is 1 operation-kinds.ps μ-operation t) operation.Pre
+abbrev operation-at : ℕ → In 2 operation-kinds.ps
+operation-at t = and 2 operation-kinds.ps (is 2 operation-kinds.ps μ-operation t) operation.Pre
 
-abbrev operation-below : ℕ → In 1 operation-kinds.ps
+abbrev operation-below : ℕ → In 2 operation-kinds.ps
 operation-below t =
-    and 1 operation-kinds.ps (falls 1 operation-kinds.ps _<_ μ-operation t) operation.Pre
+    and 2 operation-kinds.ps (falls 2 operation-kinds.ps _<_ μ-operation t) operation.Pre
 
-abbrev showing-at : ℕ → In 1 showing-kinds.ps
-showing-at t = and 1 showing-kinds.ps (is 1 showing-kinds.ps μ-showing t) showing.Pre
+abbrev showing-at : ℕ → In 2 showing-kinds.ps
+showing-at t = and 2 showing-kinds.ps (is 2 showing-kinds.ps μ-showing t) showing.Pre
 
-abbrev showing-below : ℕ → In 1 showing-kinds.ps
-showing-below t = and 1 showing-kinds.ps (falls 1 showing-kinds.ps _<_ μ-showing t) showing.Pre
+abbrev showing-below : ℕ → In 2 showing-kinds.ps
+showing-below t = and 2 showing-kinds.ps (falls 2 showing-kinds.ps _<_ μ-showing t) showing.Pre
 
-abbrev slots-at : ℕ → In 1 slots-kinds.ps
-slots-at t = and 1 slots-kinds.ps (is 1 slots-kinds.ps μ-slots t) slots.Pre
+abbrev slots-at : ℕ → In 2 slots-kinds.ps
+slots-at t = and 2 slots-kinds.ps (is 2 slots-kinds.ps μ-slots t) slots.Pre
 
-abbrev slots-below : ℕ → In 1 slots-kinds.ps
-slots-below t = and 1 slots-kinds.ps (falls 1 slots-kinds.ps _<_ μ-slots t) slots.Pre
+abbrev slots-below : ℕ → In 2 slots-kinds.ps
+slots-below t = and 2 slots-kinds.ps (falls 2 slots-kinds.ps _<_ μ-slots t) slots.Pre
 
 abbrev instructions-Inv-loop : instructions-lts.InvT-loop
-instructions-Inv-loop s at i₀ i = Continues R.instructions 2 s at i
+instructions-Inv-loop c s at i₀ i = Continues R.instructions 2 s at i
 
 abbrev instructions-μ-loop : instructions-lts.MeasureT-loop
-instructions-μ-loop s at i₀ i = length s - i
+instructions-μ-loop c s at i₀ i = length s - i
 
 abbrev slots-Inv-loop : slots-lts.InvT-loop
-slots-Inv-loop s at i₀ i = Continues R.slots 0 s at i
+slots-Inv-loop c s at i₀ i = Continues R.slots 0 s at i
 
 abbrev slots-μ-loop : slots-lts.MeasureT-loop
-slots-μ-loop s at i₀ i = length s - i
+slots-μ-loop c s at i₀ i = length s - i
 
 pub +assigning+base+base-from+binary+block+branching+expression+frame+instruction+instructions+jumping+negation+operation+showing+slots-spec :
     {M : Type 1} → statement M
@@ -257,20 +256,20 @@ pub +assigning+base+base-from+binary+block+branching+expression+frame+instructio
     (λ c. search needs)
     (λ c. search needs)
     (λ c. search assign-2)
-    (λ c κs. (search assign-falls, tt))
+    (λ c κs. (search assign-falls, search needs))
     (λ c. search assign-3))
     (λ t. base-lts.spec
     (look-reads.Asked, look-reads.Learnt, base-from-below t, base-from.Post)
     (base-at t)
     base.Post
     (λ c κs. search needs)
-    (λ c κs. (omega arith, c .look .ensures))
+    (λ c κs. (omega arith, search needs))
     (λ c. search needs))
     (λ t. base-from-lts.spec
     (block-below t, block.Post, path-from-reads.Asked, path-from-reads.Learnt)
     (base-from-at t)
     base-from.Post
-    (λ c κs. (omega arith, tt))
+    (λ c κs. (omega arith, search needs))
     (λ c. search base-block)
     (λ c κs. search needs)
     (λ c. search base-path)
@@ -280,11 +279,11 @@ pub +assigning+base+base-from+binary+block+branching+expression+frame+instructio
     (base-below t, base.Post, operation-below t, operation.Post)
     (binary-at t)
     binary.Post
-    (λ c κs. (omega arith, tt))
+    (λ c κs. (omega arith, search needs))
     (λ c. search needs)
     (λ c. search needs)
     (λ c. search binary-1)
-    (λ c κs. (search binary-falls, tt))
+    (λ c κs. (search binary-falls, search needs))
     (λ c. search binary-2))
     (λ t. block-lts.spec
     (expect-reads.Asked, expect-reads.Learnt, instructions-below t, instructions.Post)
@@ -298,7 +297,7 @@ pub +assigning+base+base-from+binary+block+branching+expression+frame+instructio
     (λ c. search needs)
     (λ c. search needs)
     (λ c. search block-2)
-    (λ c κs. (search block-falls, tt))
+    (λ c κs. (search block-falls, search needs))
     (λ c. search needs)
     (λ c. search needs)
     (λ c. search block-3)
@@ -312,26 +311,26 @@ pub +assigning+base+base-from+binary+block+branching+expression+frame+instructio
     (λ c. search needs)
     (λ c. search needs)
     (λ c. search ifeq-1)
-    (λ c κs. (search ifeq-falls, tt))
+    (λ c κs. (search ifeq-falls, search needs))
     (λ c. search needs)
     (λ c. search needs)
     (λ c. search ifeq-2)
-    (λ c κs. (search ifeq-falls-2, tt))
+    (λ c κs. (search ifeq-falls-2, search needs))
     (λ c. search needs)
     (λ c. search needs)
     (λ c. search ifeq-3)
-    (λ c κs. (search ifeq-falls-3, tt))
+    (λ c κs. (search ifeq-falls-3, search needs))
     (λ c. search ifeq-4))
     (λ t. expression-lts.spec
     (kind-at-reads.Asked, kind-at-reads.Learnt, frame-below t, frame.Post, negation-below t, negation.Post, binary-below t, binary.Post)
     (expression-at t)
     expression.Post
     (λ c κs. search needs)
-    (λ c κs. (omega arith, tt))
+    (λ c κs. (omega arith, search needs))
     (λ c. search expression-frame)
-    (λ c κs. (omega arith, tt))
+    (λ c κs. (omega arith, search needs))
     (λ c. search expression-not)
-    (λ c κs. (omega arith, tt))
+    (λ c κs. (omega arith, search needs))
     (λ c. search expression-binary))
     (λ t. frame-lts.spec
     (expect-reads.Asked, expect-reads.Learnt, slots-below t, slots.Post)
@@ -349,7 +348,7 @@ pub +assigning+base+base-from+binary+block+branching+expression+frame+instructio
     (λ c. search needs)
     (λ c. search needs)
     (λ c. search frame-3)
-    (λ c κs. (search frame-falls, tt))
+    (λ c κs. (search frame-falls, search needs))
     (λ c. search needs)
     (λ c. search needs)
     (λ c. search frame-4)
@@ -360,13 +359,13 @@ pub +assigning+base+base-from+binary+block+branching+expression+frame+instructio
     (instruction-at t)
     instruction.Post
     (λ c κs. search needs)
-    (λ c κs. (omega arith, tt))
+    (λ c κs. (omega arith, search needs))
     (λ c. search instruction-show)
-    (λ c κs. (omega arith, tt))
+    (λ c κs. (omega arith, search needs))
     (λ c. search instruction-jump)
-    (λ c κs. (omega arith, tt))
+    (λ c κs. (omega arith, search needs))
     (λ c. search instruction-ifeq)
-    (λ c κs. (omega arith, tt))
+    (λ c κs. (omega arith, search needs))
     (λ c. search instruction-assign))
     (λ t. instructions-lts.spec
     (instruction-below t, instruction.Post, expect-reads.Asked, expect-reads.Learnt)
@@ -375,7 +374,7 @@ pub +assigning+base+base-from+binary+block+branching+expression+frame+instructio
     instructions-Inv-loop
     instructions-μ-loop
     (λ c. search list-start)
-    (λ c κs. (search list-falls, tt))
+    (λ c κs. (search list-falls, search needs))
     (λ c. search needs)
     (λ c. search needs)
     (λ c. search list-1)
@@ -394,11 +393,11 @@ pub +assigning+base+base-from+binary+block+branching+expression+frame+instructio
     (λ c. search needs)
     (λ c. search needs)
     (λ c. search jump-1)
-    (λ c κs. (search jump-falls, tt))
+    (λ c κs. (search jump-falls, search needs))
     (λ c. search needs)
     (λ c. search needs)
     (λ c. search jump-2)
-    (λ c κs. (search jump-falls-2, tt))
+    (λ c κs. (search jump-falls-2, search needs))
     (λ c. search jump-3))
     (λ t. negation-lts.spec
     (expect-reads.Asked, expect-reads.Learnt, base-below t, base.Post)
@@ -408,7 +407,7 @@ pub +assigning+base+base-from+binary+block+branching+expression+frame+instructio
     (λ c. search needs)
     (λ c. search needs)
     (λ c. search negation-1)
-    (λ c κs. (search negation-falls, tt))
+    (λ c κs. (search negation-falls, search needs))
     (λ c. search negation-2))
     (λ t. operation-lts.spec
     (expect-reads.Asked, expect-reads.Learnt, base-below t, base.Post)
@@ -418,7 +417,7 @@ pub +assigning+base+base-from+binary+block+branching+expression+frame+instructio
     (λ c. search needs)
     (λ c. search needs)
     (λ c. search operation-1)
-    (λ c κs. (search operation-falls, tt))
+    (λ c κs. (search operation-falls, search needs))
     (λ c. search needs)
     (λ c. search needs)
     (λ c. search operation-2)
@@ -431,7 +430,7 @@ pub +assigning+base+base-from+binary+block+branching+expression+frame+instructio
     (λ c. search needs)
     (λ c. search needs)
     (λ c. search show-1)
-    (λ c κs. (search show-falls, tt))
+    (λ c κs. (search show-falls, search needs))
     (λ c. search show-2))
     λ t. slots-lts.spec
     (expect-reads.Asked, expect-reads.Learnt, expression-below t, expression.Post)
@@ -448,7 +447,7 @@ pub +assigning+base+base-from+binary+block+branching+expression+frame+instructio
     (λ c. search needs)
     (λ c. search needs)
     (λ c. search slots-2)
-    (λ c κs. (search slots-falls, tt))
+    (λ c κs. (search slots-falls, search needs))
     (λ c. search needs)
     (λ c. search needs)
     (λ c. search slots-3)

@@ -24,4 +24,4 @@ returns-6 c = search limit-6
 pub above-limit-spec : {M : Type 1} → statement M
 above-limit-spec =
     tie.close
-    (tie.spec (λ c κs. search needs) returns returns-2 returns-3 returns-4 returns-5 (λ c κs. search needs) returns-6)
+    (tie.spec returns returns-2 returns-3 returns-4 returns-5 (λ c κs. search needs) returns-6)

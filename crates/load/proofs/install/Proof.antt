@@ -11,7 +11,7 @@ use Rattle.start_state.proofs.start.Reads as start-reads
 
 -- src/lib.rt:19:5
 emit-requires : tie.Need-emit-requires
-emit-requires c κs = search install-can-emit
+emit-requires c κs = (search needs, (search needs, search install-can-emit))
 
 -- src/lib.rt:20:5
 clear-words-requires : tie.Need-clear-words-requires
@@ -43,7 +43,7 @@ same-length-4 c = search needs
 
 -- src/lib.rt:7:1
 returns : tie.Need-returns
-returns c = search install-done
+returns c = search (install-done, c .before .before .before .before .before .before .before .before .before .before .before .before .before .before .before .before .before .before .before .before .before .before .before .before .before .before .before .before .before .before .before .pre .1 .1)
 
 pub install-spec : {M : Type 1} → statement M
 install-spec =

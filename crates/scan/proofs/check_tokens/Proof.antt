@@ -3,24 +3,28 @@ use borrow.Author.Needs.{needs}
 use lib.ListN.{length}
 use Rattle.framed.specs.Bytes.{class}
 use Rattle.token.proofs.Answers.{token-less}
-use Rattle.scan.proofs.Laws.{Scanning, scan-start, scan-end, scan-four, scan-again, scan-small, scan-done}
+use Rattle.token_cache.specs.Cache.{Cached}
+use Rattle.scan.proofs.Laws.{Scanning, scan-start, scan-end, scan-four, scan-again, scan-small, scan-done, scan-store}
 use Rattle.scan.proofs.check_tokens.Statement.{statement}
 use Rattle.scan.proofs.check_tokens.Tie as tie
 
 abbrev Inv-loop : tie.InvT-loop
-Inv-loop s at₀ depth₀ high₀ at depth high = Scanning class s at depth high
+Inv-loop c₀ s at₀ depth₀ high₀ c at depth high = Scanning class s at depth high × Cached c s
 
 abbrev μ-loop : tie.MeasureT-loop
-μ-loop s at₀ depth₀ high₀ at depth high = length s - at
+μ-loop c₀ s at₀ depth₀ high₀ c at depth high = length s - at
 
 loop-holds : tie.Need-loop-holds Inv-loop μ-loop
-loop-holds c = search scan-start
+loop-holds c = search (scan-start, needs)
 
 returns : tie.Need-returns Inv-loop μ-loop
-returns c = search scan-end
+returns c = search (scan-end, needs)
 
 returns-2 : tie.Need-returns-2 Inv-loop μ-loop
-returns-2 c = search scan-four
+returns-2 c = search (scan-four, needs)
+
+store-requires : tie.Need-store-requires Inv-loop μ-loop
+store-requires c κs = search scan-store
 
 depth-after-requires : tie.Need-depth-after-requires Inv-loop μ-loop
 depth-after-requires c κs = search (scan-small, needs)
@@ -29,15 +33,15 @@ loop-less : tie.Need-loop-less Inv-loop μ-loop
 loop-less c = search token-less
 
 loop-again : tie.Need-loop-again Inv-loop μ-loop
-loop-again c = search scan-again
+loop-again c = search (scan-again, needs)
 
 returns-3 : tie.Need-returns-3 Inv-loop μ-loop
-returns-3 c = search scan-done
+returns-3 c = search (scan-done, needs)
 
 pub check-tokens-spec : {M : Type 1} → statement M
 check-tokens-spec =
     tie.close
     (tie.spec
     Inv-loop μ-loop loop-holds (λ c κs. search needs) (λ c. search needs) (λ c κs. search needs) returns (λ c. search needs)
-    returns-2 (λ c. search needs) (λ c κs. search needs) depth-after-requires loop-less loop-again (λ c κs. search needs)
+    returns-2 (λ c. search needs) store-requires (λ c κs. search needs) depth-after-requires loop-less loop-again (λ c κs. search needs)
     returns-3)

@@ -6,10 +6,10 @@ use Rattle.slots.proofs.bad_frame.Statement.{statement}
 use Rattle.slots.proofs.bad_frame.Tie as tie
 
 abbrev Inv-loop : tie.InvT-loop
-Inv-loop s classes at₀ at = Passing s at
+Inv-loop c s at₀ at = Passing s at
 
 abbrev μ-loop : tie.MeasureT-loop
-μ-loop s classes at₀ at = length s - at
+μ-loop c s at₀ at = length s - at
 
 loop-holds : tie.Need-loop-holds Inv-loop μ-loop
 loop-holds c = search pass-start
@@ -35,4 +35,4 @@ returns-4 c = search pass-done
 pub bad-frame-spec : {M : Type 1} → statement M
 bad-frame-spec =
     tie.close
-    (tie.spec Inv-loop μ-loop (λ c κs. search needs) loop-holds (λ c κs. search needs) (λ c. search needs) returns (λ c. search needs) returns-2 (λ c. search needs) (λ c κs. search needs) returns-3 loop-less loop-again returns-4)
+    (tie.spec Inv-loop μ-loop loop-holds (λ c κs. search needs) (λ c. search needs) returns (λ c. search needs) returns-2 (λ c. search needs) (λ c κs. search needs) returns-3 loop-less loop-again returns-4)

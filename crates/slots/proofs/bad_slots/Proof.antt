@@ -8,10 +8,10 @@ use Rattle.slots.proofs.bad_slots.Statement.{statement}
 use Rattle.slots.proofs.bad_slots.Tie as tie
 
 abbrev Inv-loop : tie.InvT-loop
-Inv-loop s from classes begins₀ ends₀ n₀ depth₀ last₀ clear₀ at₀ begins ends n depth last clear at = Collecting s from begins ends n depth last at × Clear s from clear
+Inv-loop c s from begins₀ ends₀ n₀ depth₀ last₀ clear₀ at₀ begins ends n depth last clear at = Collecting s from begins ends n depth last at × Clear s from clear
 
 abbrev μ-loop : tie.MeasureT-loop
-μ-loop s from classes begins₀ ends₀ n₀ depth₀ last₀ clear₀ at₀ begins ends n depth last clear at = length s - at
+μ-loop c s from begins₀ ends₀ n₀ depth₀ last₀ clear₀ at₀ begins ends n depth last clear at = length s - at
 
 loop-holds : tie.Need-loop-holds Inv-loop μ-loop
 loop-holds c = search (collect-start, clear-start)
@@ -36,15 +36,15 @@ returns-5 c = search (checks, collect-many)
 
 depth-after-requires : tie.Need-depth-after-requires Inv-loop μ-loop
 depth-after-requires c κs =
-    let l = c .before .before .before .before .before .before .before .before .before .before .before .before .before .before .before .before .before .before .before in
-    search (collect-shallow, needs, l .loop-test .taken, l .before .loop .inv .0, l .before .before .before .shared-slice-known .given)
+    let l = c .before .before .before .before .before .before .before .before .before .before .before .before .before .before .before .before .before .before in
+    search (collect-shallow, needs, l .loop-test .taken, l .before .loop .inv .0, l .before .before .shared-slice-known .given)
 
 loop-less : tie.Need-loop-less Inv-loop μ-loop
 loop-less c = search token-less
 
 loop-again : tie.Need-loop-again Inv-loop μ-loop
 loop-again c =
-    let i = c .before .before .before .before .before .before .before .before .before .before .before .before .before .before .before .before .before .before .before .before .before .loop .inv in
+    let i = c .before .before .before .before .before .before .before .before .before .before .before .before .before .before .before .before .before .before .before .before .loop .inv in
     (search (collect-again, i .0), search (clear-again, i .1))
 
 returns-6 : tie.Need-returns-6 Inv-loop μ-loop
@@ -53,4 +53,4 @@ returns-6 c = search (checks, collect-done)
 pub bad-slots-spec : {M : Type 1} → statement M
 bad-slots-spec =
     tie.close
-    (tie.spec Inv-loop μ-loop (λ c κs. search needs) loop-holds (λ c κs. search needs) (λ c. search needs) returns (λ c. search needs) returns-2 (λ c. search needs) (λ c κs. search needs) returns-3 (λ c κs. search needs) (λ c. search needs) (λ c. search needs) (λ c κs. search needs) returns-4 (λ c. search needs) (λ c. search needs) add-slot-requires returns-5 (λ c κs. search needs) depth-after-requires loop-less loop-again returns-6)
+    (tie.spec Inv-loop μ-loop loop-holds (λ c κs. search needs) (λ c. search needs) returns (λ c. search needs) returns-2 (λ c. search needs) (λ c κs. search needs) returns-3 (λ c κs. search needs) (λ c. search needs) (λ c. search needs) (λ c κs. search needs) returns-4 (λ c. search needs) (λ c. search needs) add-slot-requires returns-5 (λ c κs. search needs) depth-after-requires loop-less loop-again returns-6)

@@ -7,10 +7,10 @@ use Rattle.start.proofs.find_slot.Statement.{statement}
 use Rattle.start.proofs.find_slot.Tie as tie
 
 abbrev Inv-loop : tie.InvT-loop
-Inv-loop s from name classes depth₀ last₀ at₀ depth last at = Finding s from name depth last at
+Inv-loop c s from name depth₀ last₀ at₀ depth last at = Finding s from name depth last at
 
 abbrev μ-loop : tie.MeasureT-loop
-μ-loop s from name classes depth₀ last₀ at₀ depth last at = length s - at
+μ-loop c s from name depth₀ last₀ at₀ depth last at = length s - at
 
 loop-holds : tie.Need-loop-holds Inv-loop μ-loop
 loop-holds c = search find-start
@@ -42,4 +42,4 @@ returns-5 c = search find-done
 pub find-slot-spec : {M : Type 1} → statement M
 find-slot-spec =
     tie.close
-    (tie.spec Inv-loop μ-loop (λ c κs. search needs) loop-holds (λ c κs. search needs) (λ c. search needs) returns (λ c. search needs) returns-2 (λ c. search needs) (λ c κs. search needs) returns-3 (λ c κs. search needs) (λ c κs. search needs) returns-4 depth-after-requires loop-less loop-again returns-5)
+    (tie.spec Inv-loop μ-loop loop-holds (λ c κs. search needs) (λ c. search needs) returns (λ c. search needs) returns-2 (λ c. search needs) (λ c κs. search needs) returns-3 (λ c κs. search needs) (λ c κs. search needs) returns-4 depth-after-requires loop-less loop-again returns-5)

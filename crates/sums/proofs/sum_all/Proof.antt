@@ -7,10 +7,10 @@ use Rattle.sums.proofs.sum_all.Statement.{statement}
 use Rattle.sums.proofs.sum_all.Tie as tie
 
 abbrev Inv-loop : tie.InvT-loop
-Inv-loop s classes at₀ t₀ curly₀ square₀ further₀ last₀ at t curly square further last = Tallying s at t curly square further last
+Inv-loop c s at₀ t₀ curly₀ square₀ further₀ last₀ at t curly square further last = Tallying s at t curly square further last
 
 abbrev μ-loop : tie.MeasureT-loop
-μ-loop s classes at₀ t₀ curly₀ square₀ further₀ last₀ at t curly square further last = length s - at
+μ-loop c s at₀ t₀ curly₀ square₀ further₀ last₀ at t curly square further last = length s - at
 
 loop-holds : tie.Need-loop-holds Inv-loop μ-loop
 loop-holds c = search tally-start
@@ -46,5 +46,5 @@ pub sum-all-spec : {M : Type 1} → statement M
 sum-all-spec =
     tie.close
     (tie.spec
-    Inv-loop μ-loop (λ c κs. search needs) (λ c κs. search needs) loop-holds (λ c κs. search needs) (λ c. search needs) returns (λ c. search needs) returns-2 (λ c. search needs)
+    Inv-loop μ-loop (λ c κs. search needs) loop-holds (λ c κs. search needs) (λ c. search needs) returns (λ c. search needs) returns-2 (λ c. search needs)
     added-requires further-after-requires square-after-requires curly-after-requires loop-less loop-again returns-3)

@@ -1,25 +1,22 @@
 use borrow.Author.Needs.{needs}
-use Rattle.emit_names.proofs.Laws.{Keeping, keeping-start, keeping-none, keeping-few, keeping-many, keeping-again, keeping-done}
+use Rattle.names.proofs.Laws.{Keeping, keeping-start, keeping-none, keeping-few, keeping-many, keeping-again, keeping-done}
 use native.Mathlib.Omega.{arith}
 use Prim.Native.Nat.{_-_}
 use lib.ListN.{length}
 use Rattle.token.proofs.Answers.{token-less}
 use Rattle.framed.specs.Bytes.{class}
-use Rattle.emit_names.proofs.keep_names.Statement.{statement}
-use Rattle.emit_names.proofs.keep_names.Tie as tie
-use Rattle.emit_names.proofs.keep_names.Reads as reads
-use Rattle.emit_names.proofs.keep_names.Lts as lts
-use Rattle.emit_names.proofs.keep.Reads as keep-reads
-use Rattle.token.proofs.token_in.Reads as token-in-reads
+use Rattle.names.proofs.keep_names.Statement.{statement}
+use Rattle.names.proofs.keep_names.Tie as tie
+use Rattle.names.proofs.keep_names.Reads as reads
+use Rattle.names.proofs.keep_names.Lts as lts
+use Rattle.names.proofs.keep.Reads as keep-reads
+use Rattle.token_cache.proofs.token_in.Reads as token-in-reads
 
 abbrev Inv-loop : tie.InvT-loop
-Inv-loop s begins₀ ends₀ classes n₀ at₀ begins ends n at = Keeping s begins ends n at
+Inv-loop c s begins₀ ends₀ hints₀ n₀ at₀ begins ends hints n at = Keeping s begins ends hints n at
 
 abbrev μ-loop : tie.MeasureT-loop
-μ-loop s begins₀ ends₀ classes n₀ at₀ begins ends n at = length s - at
-
-classes-requires : tie.Need-classes-requires Inv-loop μ-loop
-classes-requires c κs = search needs
+μ-loop c s begins₀ ends₀ hints₀ n₀ at₀ begins ends hints n at = length s - at
 
 loop-holds : tie.Need-loop-holds Inv-loop μ-loop
 loop-holds c = search keeping-start
@@ -72,7 +69,6 @@ keep-names-spec =
     (tie.spec
     Inv-loop
     μ-loop
-    classes-requires
     loop-holds
     token-in-requires
     enum-known-t

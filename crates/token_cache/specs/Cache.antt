@@ -1,0 +1,33 @@
+-- Document 01, "Tokens and grammar": tokens of a source kept by the position at which they were read. Assumes nothing.
+use mathlib.Core.Path.{_≡_}
+use mathlib.Core.List.{List}
+use Prim.Native.Nat.{ℕ, _+_, _*_, _/_, _%_, _<_}
+use lib.ListN.{length}
+use Rattle.framed.specs.Bytes.{class}
+use Rattle.words.specs.Words.{word}
+use Rattle.token.specs.Reading.{TokenAt}
+use Rattle.token.specs.declared.TokenRead.{TokenRead}
+
+-- kind, begin, end and word of a token in one entry
+unfoldable pub packed : ℕ → ℕ → ℕ → ℕ → ℕ
+packed k a p w = k + 32 * (a + 32768 * (p + 32768 * w))
+
+unfoldable pub unpacked : ℕ → TokenRead
+unpacked e = TokenRead.Token (e % 32) (e / 32 % 32768) (e / 1048576 % 32768) (e / 34359738368 % 536870912)
+
+-- an entry has room for them
+pub record Small (k a p w : ℕ) : Type 0 where
+  pub kind : k < 32
+  pub begin : a < 32768
+  pub end : p < 32768
+  pub word-small : w < 536870912
+
+-- each entry that is not 0 is the token at its position
+pub record Cached (c s : List ℕ) : Type 0 where
+  pub entries : length c ≡ 16384
+  pub rule : (at : ℕ) → (word c at ≡ 0 → ⊥) → TokenAt class s at (unpacked (word c at))
+
+-- the token was read at that position
+pub record CanStore (c s : List ℕ) (at k a p w : ℕ) : Type 0 where
+  pub cached : Cached c s
+  pub read : TokenAt class s at (TokenRead.Token k a p w)
