@@ -13,7 +13,7 @@ use Rattle.heap.specs.Lists.{passing}
 use Rattle.heap.specs.Held.{frames-in-use, texts-in-use}
 use Rattle.heap.proofs.Lists.{passing-yes, passing-below}
 use Rattle.allocation.specs.Allocation.{lowest-from, next-frame, next-text}
-use Rattle.allocation.specs.Known.{FullBelow, Knows}
+use Rattle.allocation.specs.Known.{FullBelow, TextsFull, Full, Knows}
 
 -- ---- The loop: what is found from i on is the answer
 
@@ -56,6 +56,13 @@ seek-full h low a = go (decLe low 256)
   where
     go : Dec (low ≤ 256) → Seek (frame-used h) low
     go (yes le) = seek-from (frame-used h) low le (λ k lt. a .in-use k lt .used)
+    go (no gt) = absurd (let q = a .in-use 256 (omega arith) .small in omega arith)
+
+pub seek-texts : (h : List ℕ) (low : ℕ) → TextsFull h low → Seek (text-used h) low
+seek-texts h low a = go (decLe low 256)
+  where
+    go : Dec (low ≤ 256) → Seek (text-used h) low
+    go (yes le) = seek-from (text-used h) low le (λ k lt. a .in-use k lt .used)
     go (no gt) = absurd (let q = a .in-use 256 (omega arith) .small in omega arith)
 
 -- ---- What the number is
@@ -128,16 +135,28 @@ module _ (h : List ℕ) where
   pub none-below : FullBelow h 0
   none-below = record { in-use = λ g lt. absurd (omega arith) }
 
+  pub no-text-below : TextsFull h 0
+  no-text-below = record { in-use = λ k lt. absurd (omega arith) }
+
+  pub none-full : Full h 0 0
+  none-full = record { frames = none-below; texts = no-text-below }
+
+  pub next-text-full : TextsFull h (next-text h)
+  unfolding next-text
+  next-text-full =
+      let a = lowest-is (text-used h) 256 0 in
+      record { in-use = λ k lt. record { small = omega (arith, a .bound); used = a .before k (omega arith) lt } }
+
   pub next-full : FullBelow h (next-frame h)
   unfolding next-frame
   next-full =
       let a = lowest-is (frame-used h) 256 0 in
       record { in-use = λ g lt. record { small = omega (arith, a .bound); used = a .before g (omega arith) lt } }
 
-  pub always-known : Knows h 0 0 (record { frames = 256; texts = 256; low = 0 })
+  pub always-known : Knows h 0 0 (record { frames = 256; texts = 256; low = 0; least = 0 })
   unfolding frames-in-use texts-in-use
   always-known = record {
     frames = omega (arith, passing-below (frame-used h) 256);
     texts = omega (arith, passing-below (text-used h) 256);
-    full = none-below;
+    full = none-full;
   }

@@ -1,5 +1,5 @@
 -- One step: the check ends with what the unbounded machine's rule ends with, or the commit leaves a related state and shows the same line. Assumes nothing.
-use mathlib.Core.Path.{_≡_, refl, sym, ap, subst}
+use mathlib.Core.Path.{_≡_, refl, sym, ap, subst, _∙_}
 use mathlib.Core.Logic.{_⊎_, inl, inr}
 use mathlib.Core.Bool.{Bool, true, false, true≢false}
 use mathlib.Core.Option.{some}
@@ -120,7 +120,7 @@ module _ {S : Type 0} (𝓞 : Store S) (p : Program) (𝓛 : Laws 𝓞 p) (fits 
     ok = A .well-formed
 
     nothing-taken : Takes H H 0 0
-    nothing-taken = record { frames = omega arith; texts = omega arith; stays = λ m x e. (x, e) }
+    nothing-taken = record { frames = omega arith; texts = omega arith; stays = λ m x e. (x, e); stays-text = λ k bs e. e }
 
     -- the same heap, with other remaining instructions and another self
     moved : (is : Code Path) → CodeFits p is → {v w : Value} → ValueRel (A .relation) v w → Valid p H v → (l : List ℕ) →
@@ -273,7 +273,7 @@ module _ {S : Type 0} (𝓞 : Store S) (p : Program) (𝓛 : Laws 𝓞 p) (fits 
         same-keeps = extends-keeps (same-view (view (r .store)))
 
         value-taken : Takes H (view (r .store)) (frame-literals e) (join-signs e)
-        value-taken = record { frames = D .taken .frames; texts = D .taken .texts; stays = λ m x q. (x, D .ext .old-frame m x q) }
+        value-taken = record { frames = D .taken .frames; texts = D .taken .texts; stays = λ m x q. (x, D .ext .old-frame m x q); stays-text = D .ext .old-text }
 
         -- with an empty path: self, or program, becomes the value
         self-becomes : Related 𝓞 p 𝓛 F T (goes-on 𝓞 b rest (r .value) (b .program) (r .store))
@@ -332,6 +332,7 @@ module _ {S : Type 0} (𝓞 : Store S) (p : Program) (𝓛 : Laws 𝓞 p) (fits 
             frames = omega (arith, same-frames, D .taken .frames);
             texts = omega (arith, same-texts, D .taken .texts);
             stays = λ a g z. written-keeps w .keeps-frame a (g, D .ext .old-frame a g z);
+            stays-text = λ k bs z. w .texts k ∙ D .ext .old-text k bs z;
           }
 
         -- the last name of the walk is one of the program's

@@ -66,8 +66,9 @@ pub record TextWritten (H K : View) (k : ℕ) (bs : List ℕ) : Type 0 where
   pub there : (j : ℕ) → j ≢ k → text-at K j ≡ text-at H j
   pub frames : (n : ℕ) → frame-at K n ≡ frame-at H n
 
--- at most f frames and n made texts more are in use, and what frame was in use is still
+-- at most f frames and n made texts more are in use, and what was in use is still
 pub record Takes (H K : View) (f n : ℕ) : Type 0 where
   pub frames : frames-used K ≤ frames-used H + f
   pub texts : texts-used K ≤ texts-used H + n
   pub stays : (m : ℕ) (x : Frame) → frame-at H m ≡ some x → (y : Frame) × (frame-at K m ≡ some y)
+  pub stays-text : (k : ℕ) (bs : List ℕ) → text-at H k ≡ some bs → text-at K k ≡ some bs

@@ -1,3 +1,4 @@
+pub mod Count
 pub mod Sweep
 pub mod Means
 pub mod Kept

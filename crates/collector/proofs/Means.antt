@@ -7,13 +7,16 @@ use mathlib.Core.Bool.{true, false, not, true≢false}
 use native.Mathlib.Omega.{arith}
 use native.Mathlib.Decide.{ℕ-discrete}
 use lib.ListN.{length, getD}
+use lib.Dec.{eqb}
+use borrow.Author.Tests.{eq-eqb, ne-eqb}
+use Rattle.heap.specs.Lists.{passing}
 use Rattle.framed.specs.declared.Text.{Text}
 use Rattle.framed.specs.declared.Totals.{Totals}
 use Rattle.framed.specs.declared.Value.{Value}
 use Rattle.framed.specs.Values.{new-frame}
 use Rattle.framed.specs.Reach.{Reachable, roots, reached-frames, reached-texts}
 use Rattle.framed.proofs.ReachCounts.{reach-agrees, reached-once, texts-agree, texts-once as reached-texts-once}
-use Rattle.heap.specs.Words.{self-held, program-held, position, end-mark, slot-count-at, slot-value-at, text-word, text-length}
+use Rattle.heap.specs.Words.{self-held, program-held, position, end-mark, frame-used, slot-count-at, slot-value-at, text-used, text-word, text-length}
 use Rattle.heap.specs.Held.{frame-held, text-held, frames-held, frames-in-use, texts-in-use}
 use Rattle.heap.specs.Closed.{Sized, FrameInUse, TextInUse, NamesInUse, Closed}
 use Rattle.heap.proofs.Lists.{same-length}
@@ -22,8 +25,9 @@ use Rattle.heap.proofs.Held.{InSlot, in-slot-held, in-slot-from, frame-of-used,
 use Rattle.mark.specs.Mark.{mark-all}
 use Rattle.mark.specs.Reached.{Reached, Marked, Exactly}
 use Rattle.mark.proofs.ReachLaws.{mark-exact, reached-in-use}
-use Rattle.collector.specs.Collect.{sweep-frames, sweep-texts, swept, in-use-totals, collection, collect-heap}
+use Rattle.collector.specs.Collect.{marked-from, sweep-frames, sweep-texts, swept, in-use-totals, collection, collect-heap}
 use Rattle.collector.specs.Collected.{Collected, CollectTwice, CollectMeans}
+use Rattle.collector.proofs.Count.{passing-same}
 use Rattle.collector.proofs.Sweep.{Swept, swept-words, swept-still}
 
 module _ (h : List ℕ) (closed : Closed h) where
@@ -222,15 +226,47 @@ pub collect-twice : CollectTwice
 unfolding collect-heap
 collect-twice h closed = ap (λ (x : List ℕ). collection (in-use-totals x) x) (still h closed)
 
+-- ---- What is marked is in use afterwards
+
+module _ (h : List ℕ) (closed : Closed h) where
+  frame-marked : (f : ℕ) → f < 256 → marked-from (mark-all h) 0 f ≡ frame-used (after h closed) f
+  unfolding marked-from
+  frame-marked f lt = let z : 0 + f ≡ f = omega arith in rw z (go (ℕ-discrete (getD (mark-all h) f 0) 0))
+    where
+      go : Dec (getD (mark-all h) f 0 ≡ 0) → not (eqb (getD (mark-all h) f 0) 0) ≡ frame-used (after h closed) f
+      go (yes e) = rw (eq-eqb _ _ e) (sym (frame-word-free (after h closed) f (words h closed .frame-freed f lt e)))
+      go (no ne) = rw (ne-eqb _ _ ne) (sym (frame-stays h closed f (exact h closed .frame-sound f lt ne) .used))
+
+  text-marked : (k : ℕ) → k < 256 → marked-from (mark-all h) 256 k ≡ text-used (after h closed) k
+  unfolding marked-from
+  text-marked k lt = go (ℕ-discrete (getD (mark-all h) (256 + k) 0) 0)
+    where
+      go : Dec (getD (mark-all h) (256 + k) 0 ≡ 0) → not (eqb (getD (mark-all h) (256 + k) 0) 0) ≡ text-used (after h closed) k
+      go (yes e) = rw (eq-eqb _ _ e) (sym (text-word-free (after h closed) k (words h closed .text-freed k lt e)))
+      go (no ne) = rw (ne-eqb _ _ ne) (sym (text-stays h closed k (exact h closed .text-sound k lt ne) .used))
+
 -- as the code's contract says it
-module _ (h m h₁ h₂ : List ℕ) (r : Totals) (em : m ≡ mark-all h) (e₁ : h₁ ≡ sweep-frames m h) (e₂ : h₂ ≡ sweep-texts m h₁) (er : r ≡ in-use-totals h₂) where
+module _ (h : List ℕ) (closed : Closed h) (m h₁ h₂ : List ℕ) (em : m ≡ mark-all h) (e₁ : h₁ ≡ sweep-frames m h) (e₂ : h₂ ≡ sweep-texts m h₁)
+    (a b : ℕ) (ea : a ≡ length (passing (marked-from m 0) 256)) (eb : b ≡ length (passing (marked-from m 256) 256)) where
   collect-end : h₂ ≡ swept (mark-all h) h
   unfolding swept
   collect-end = rw (e₂, e₁, em)
 
-  pub collect-is : collect-heap h ≡ collection r h₂
-  unfolding collect-heap
-  collect-is = rw (er, collect-end)
+  totals-are : _≡_ {A = Totals} (record { frames = a; texts = b }) (in-use-totals h₂)
+  unfolding in-use-totals frames-in-use texts-in-use
+  totals-are =
+      rw (
+        ea,
+        eb,
+        em,
+        collect-end,
+        passing-same (marked-from (mark-all h) 0) (frame-used (after h closed)) 256 (frame-marked h closed),
+        passing-same (marked-from (mark-all h) 256) (text-used (after h closed)) 256 (text-marked h closed),
+      )
 
-  pub collect-means : Closed h → Collected h h₂ r
-  collect-means closed = rw (er, collect-end) (collected h closed)
+  pub collect-is : collect-heap h ≡ collection (record { frames = a; texts = b }) h₂
+  unfolding collect-heap
+  collect-is = rw (totals-are, collect-end)
+
+  pub collect-means : Collected h h₂ (record { frames = a; texts = b })
+  collect-means = rw (totals-are, collect-end) (collected h closed)

@@ -2,7 +2,7 @@
 -- What this means is in Collected. Assumes nothing.
 use Prim.Native.Nat.{ℕ, zero, suc, _+_}
 use mathlib.Core.List.{List}
-use mathlib.Core.Bool.{Bool}
+use mathlib.Core.Bool.{Bool, not}
 use lib.ListN.{length, getD}
 use lib.Dec.{eqb}
 use Rattle.words.specs.Words.{pick}
@@ -17,6 +17,10 @@ frame-unmarked m f = eqb (getD m f 0) 0
 
 unfoldable pub text-unmarked : List ℕ → ℕ → Bool
 text-unmarked m k = eqb (getD m (256 + k) 0) 0
+
+-- the mark k after a place is set
+unfoldable pub marked-from : List ℕ → ℕ → ℕ → Bool
+marked-from m from k = not (eqb (getD m (from + k) 0) 0)
 
 -- of the n numbers from i on, those that pass the test are taken out of use
 unfoldable pub sweep-from : (List ℕ → ℕ → List ℕ) → (ℕ → Bool) → ℕ → ℕ → List ℕ → List ℕ

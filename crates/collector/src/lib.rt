@@ -1,8 +1,11 @@
 // The collector over heap words: mark what self and program reach, then take everything else out of use.
 use framed::Totals;
 ghost use mathlib.Core.Path.{_≡_};
+ghost use Prim.Native.Nat.{_≤_};
+ghost use lib.ListN.{length};
+ghost use Rattle.heap.specs.Lists.{passing};
 ghost use Rattle.heap.specs.Closed.{Closed};
-ghost use Rattle.collector.specs.Collect.{sweep-frames, sweep-texts, in-use-totals, collection, collect-heap};
+ghost use Rattle.collector.specs.Collect.{sweep-frames, sweep-texts, marked-from, collection, collect-heap};
 ghost use Rattle.collector.specs.Collected.{Collected};
 
 // Takes every frame that is not marked out of use.
@@ -31,19 +34,23 @@ pub fn sweep_texts(h: &mut [u32], marks: &[u8; 512])
     }
 }
 
-// How many frames and made texts are in use.
-pub fn count_in_use(h: &[u32]) -> Totals
-    ensures { λ r. ⌜ r ≡ in-use-totals (now (h .entry)) ⌝ }
+// How many of the 256 marks from a place on are set.
+fn count_marks(marks: &[u8; 512], from: usize) -> u32
+    requires { ⌜ from ≤ 256 ⌝ }
+    ensures { λ r. ⌜ r ≡ length (passing (marked-from (now (marks .entry)) from) 256) ⌝ }
 {
-    let frames = heap::count_frames(h);
-    let texts = heap::count_texts(h);
-    Totals {
-        frames: frames,
-        texts: texts,
+    let mut n = 0u32;
+    let mut k = 0usize;
+    while k < 256 {
+        if marks[from + k] != 0 {
+            n += 1;
+        }
+        k += 1;
     }
+    n
 }
 
-// Afterwards exactly what self and program reach is in use; the totals are how much that is.
+// Afterwards exactly what self and program reach is in use; the totals are how much that is, which is how much is marked.
 pub fn collect_heap(h: &mut [u32]) -> Totals
     requires { ⌜ Closed (now h) ⌝ }
     ensures exact { λ r. ⌜ collect-heap (now (h .entry)) ≡ collection r (now (h .exit)) ⌝ }
@@ -53,5 +60,10 @@ pub fn collect_heap(h: &mut [u32]) -> Totals
     mark::mark(h, &mut marks);
     sweep_frames(h, &marks);
     sweep_texts(h, &marks);
-    count_in_use(h)
+    let frames = count_marks(&marks, 0);
+    let texts = count_marks(&marks, 256);
+    Totals {
+        frames: frames,
+        texts: texts,
+    }
 }

@@ -6,7 +6,7 @@ use tables::InstructionEntry;
 ghost use mathlib.Core.Path.{_≡_};
 ghost use Rattle.framed.specs.Paths.{from-self, from-program};
 ghost use Rattle.trees.specs.Trees.{path-list};
-ghost use Rattle.allocation.specs.Known.{FullBelow};
+ghost use Rattle.allocation.specs.Known.{Full};
 ghost use Rattle.evaluation.specs.Evaluation.{CanEvaluate};
 ghost use Rattle.commit.specs.Commit.{put-along, first-place, Assigns, CanJump, Jumps, CanCommit, Commits};
 ghost use Rattle.heap.specs.Words.{set-position};
@@ -32,13 +32,14 @@ pub fn assign_self(
     n: u32,
     x: u32,
     low: u32,
+    least: u32,
 )
     requires { ⌜ CanEvaluate (now p) (now l) (now h) (now t) x ⌝ }
-    requires { ⌜ FullBelow (now h) low ⌝ }
+    requires { ⌜ Full (now h) low least ⌝ }
     ensures { λ _. ⌜ Assigns (now (p .entry)) (now (l .entry)) (now (h .entry)) (now (t .entry)) (from-self (path-list (now (p .entry)) n j)) x (now (h .exit)) (now (t .exit)) ⌝ }
 {
     let root = heap::self_value(h);
-    let v = evaluation::evaluate(p, l, h, t, x, low);
+    let v = evaluation::evaluate(p, l, h, t, x, low, least);
     if n == 0 {
         heap::set_self(h, v);
         return;
@@ -56,13 +57,14 @@ pub fn assign_program(
     n: u32,
     x: u32,
     low: u32,
+    least: u32,
 )
     requires { ⌜ CanEvaluate (now p) (now l) (now h) (now t) x ⌝ }
-    requires { ⌜ FullBelow (now h) low ⌝ }
+    requires { ⌜ Full (now h) low least ⌝ }
     ensures { λ _. ⌜ Assigns (now (p .entry)) (now (l .entry)) (now (h .entry)) (now (t .entry)) (from-program (path-list (now (p .entry)) n j)) x (now (h .exit)) (now (t .exit)) ⌝ }
 {
     let from = heap::program_value(h);
-    let v = evaluation::evaluate(p, l, h, t, x, low);
+    let v = evaluation::evaluate(p, l, h, t, x, low, least);
     if n == 0 {
         heap::set_program(h, v);
         return;
@@ -105,19 +107,27 @@ pub fn go_on(p: &[u32], h: &mut [u32], i: u32)
     heap::set_position(h, tables::instruction_after(p, i));
 }
 
-// What instruction i does. Every frame below `low` is in use.
-pub fn commit(p: &[u32], l: &[u8], h: &mut [u32], t: &mut [u8], i: u32, low: u32)
+// What instruction i does. Every frame below `low` and every made text below `least` is in use.
+pub fn commit(
+    p: &[u32],
+    l: &[u8],
+    h: &mut [u32],
+    t: &mut [u8],
+    i: u32,
+    low: u32,
+    least: u32,
+)
     requires { ⌜ CanCommit (now p) (now l) (now h) (now t) i ⌝ }
-    requires { ⌜ FullBelow (now h) low ⌝ }
+    requires { ⌜ Full (now h) low least ⌝ }
     ensures { λ _. ⌜ Commits (now (p .entry)) (now (l .entry)) (now (h .entry)) (now (t .entry)) i (now (h .exit)) (now (t .exit)) ⌝ }
 {
     match tables::instruction_at(p, i) {
         InstructionEntry::AssignSelf(j, n, x) => {
-            assign_self(p, l, h, t, j, n, x, low);
+            assign_self(p, l, h, t, j, n, x, low, least);
             go_on(p, h, i);
         }
         InstructionEntry::AssignProgram(j, n, x) => {
-            assign_program(p, l, h, t, j, n, x, low);
+            assign_program(p, l, h, t, j, n, x, low, least);
             go_on(p, h, i);
         }
         InstructionEntry::Show(_) => go_on(p, h, i),

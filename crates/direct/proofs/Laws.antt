@@ -21,7 +21,7 @@ use Rattle.framed.specs.Machine.{defined}
 use Rattle.ints.specs.Ints.{int-of}
 use Rattle.tables.specs.declared.ExpressionEntry.{ExpressionEntry}
 use Rattle.tables.specs.Entries.{expression-at}
-use Rattle.heap.specs.Words.{self-held, program-held, frame-used, slot-count-at, set-self, set-position, set-slot-value, add-slot}
+use Rattle.heap.specs.Words.{self-held, program-held, frame-used, slot-count-at, set-self, set-program, set-position, set-slot-value, add-slot}
 use Rattle.heap.specs.Held.{slots-held, frames-held, texts-held}
 use Rattle.paths.specs.declared.SlotFound.{SlotFound}
 use Rattle.paths.proofs.SlotFound.{the-type as slot-type}
@@ -45,8 +45,7 @@ use Rattle.evaluation.proofs.Stores.{full-frame}
 use Rattle.commit.specs.Commit.{put-along, first-place, CanJump, Jumps}
 use Rattle.commit.proofs.Laws.{put-somewhere, jump-none, jump-no-code, jump-second, jump-both}
 use Rattle.direct.specs.declared.Given.{Given}
-use Rattle.direct.specs.declared.Done.{Done}
-use Rattle.direct.specs.Direct.{of-base, of-not, of-product, operation-given, entry-given, expression-given, PutsSlot, Puts, PutsFrom, of-end, JumpsOnce}
+use Rattle.direct.specs.Direct.{of-base, of-not, of-product, operation-given, entry-given, expression-given, PutsSlot, Puts, PutsFrom, root-of, set-root, JumpsOnce}
 
 -- ---- from_fetched, negation
 
@@ -194,7 +193,26 @@ module _ (p h : List ℕ) (root : Value) (j n : ℕ) (v : Value) (r : PutTarget)
       words = rw (← (put-somewhere p h root j n v r er f x (put-slot h f x v) is refl)) (k .words);
     }
 
--- ---- put_from_self, put_from_program
+-- ---- root, set_root
+
+module _ (own : Bool) (h : List ℕ) where
+  pub root-self : own ≡ true → (r : Value) → r ≡ self-held h → r ≡ root-of own h
+  unfolding root-of
+  root-self e r er = rw e er
+
+  pub root-program : own ≡ false → (r : Value) → r ≡ program-held h → r ≡ root-of own h
+  unfolding root-of
+  root-program e r er = rw e er
+
+  pub sets-self-root : own ≡ true → (v : Value) (h′ : List ℕ) → h′ ≡ set-self h v → h′ ≡ set-root own h v
+  unfolding set-root
+  sets-self-root e v h′ eh = rw e eh
+
+  pub sets-program-root : own ≡ false → (v : Value) (h′ : List ℕ) → h′ ≡ set-program h v → h′ ≡ set-root own h v
+  unfolding set-root
+  sets-program-root e v h′ eh = rw e eh
+
+-- ---- put_from
 
 module _ (p h h₀ : List ℕ) (root : Value) (j n : ℕ) (v : Value) where
   pub from-empty : n ≡ 0 → (h′ : List ℕ) → h′ ≡ h₀ → PutsFrom p h h₀ root j n v 0 h′
@@ -209,28 +227,26 @@ module _ (p h h₀ : List ℕ) (root : Value) (j n : ℕ) (v : Value) where
 -- ---- jump
 
 module _ (p l h : List ℕ) (a c : ℕ) (can : CanJump p l h a c) (r : Fetched) (er : defined (fetched r) ≡ operand-value p h a) where
-  ended : 31 ≡ jump-end p h a c → Jumps p l h a c h → JumpsOnce p l h a c (Done.Ended 31) h
-  unfolding of-end
-  ended e k = record { answer = rw (← e); jumps = k; kept = λ n q. refl }
+  ended : 31 ≡ jump-end p h a c → Jumps p l h a c h → JumpsOnce p l h a c 31 h
+  ended e k = record { end = e; jumps = k; kept = λ q. refl }
 
-  pub jump-nothing : r ≡ Fetched.Undefined → JumpsOnce p l h a c (Done.Ended 31) h
+  pub jump-nothing : r ≡ Fetched.Undefined → JumpsOnce p l h a c 31 h
   jump-nothing e = ended (ends-laws.jump-undefined p h a c r er e) (jump-none p l h a c can r er e)
 
   module _ (v : Value) (ev : r ≡ Fetched.Found v) where
-    pub jump-other : OneOf (0 ∷ 1 ∷ 3 ∷ []) (tagOf the-type v) → JumpsOnce p l h a c (Done.Ended 31) h
+    pub jump-other : OneOf (0 ∷ 1 ∷ 3 ∷ []) (tagOf the-type v) → JumpsOnce p l h a c 31 h
     jump-other o = ended (ends-laws.jump-other p h a c r er v ev o) (jump-no-code p l h a c can r er v ev o)
 
     module _ (k : ℕ) (ek : v ≡ Value.Code k) (q : Fetched) (eq : defined (fetched q) ≡ operand-value p h c) where
-      pub jump-no-self : q ≡ Fetched.Undefined → JumpsOnce p l h a c (Done.Ended 31) h
+      pub jump-no-self : q ≡ Fetched.Undefined → JumpsOnce p l h a c 31 h
       jump-no-self e =
           ended (ends-laws.jump-code p h a c r er v ev k 31 ek (ends-laws.operand-undefined p h c q eq e))
           (jump-second p l h a c can r er v ev k ek q eq e)
 
       pub jump-made : (w : Value) (h₁ h₂ : List ℕ) (z : ℕ) → q ≡ Fetched.Found w → h₁ ≡ set-self h w → h₂ ≡ set-position h₁ z → z ≡ first-place p k
-          → JumpsOnce p l h a c Done.Made h₂
-      unfolding of-end
+          → JumpsOnce p l h a c 0 h₂
       jump-made w h₁ h₂ z ew e₁ e₂ ez = record {
-        answer = rw (← (ends-laws.jump-code p h a c r er v ev k 0 ek (ends-laws.operand-found p h c q eq w ew)));
+        end = ends-laws.jump-code p h a c r er v ev k 0 ek (ends-laws.operand-found p h c q eq w ew);
         jumps = jump-both p l h a c can r er v ev k ek q eq w ew h₁ h₂ z e₁ e₂ ez;
-        kept = λ n s. absurd (let y : _≡_ {A = ℕ} 0 1 = cc in omega arith);
+        kept = λ s. absurd (s refl);
       }

@@ -1,8 +1,8 @@
 -- Document 01, "The endless machine", one step on an instruction that makes no frame and no text and shows nothing, over program words p, literal bytes l, heap words h and
 -- text bytes t: its end is that of `bounded`'s check, and what it does is the bounded machine's commit. Assumes nothing.
-use Prim.Native.Nat.{ℕ, zero, suc, _<_}
+use Prim.Native.Nat.{ℕ, _<_}
 use mathlib.Core.Path.{_≡_}
-use mathlib.Core.Bool.{not}
+use mathlib.Core.Bool.{Bool, true, false, not}
 use mathlib.Core.List.{List}
 use lib.Dec.{eqb}
 use lib.ListN.{getElem?}
@@ -15,7 +15,7 @@ use Rattle.tables.specs.declared.InstructionEntry.{InstructionEntry}
 use Rattle.tables.specs.Entries.{expression-at, instruction-at}
 use Rattle.tables.specs.Fields.{instructions}
 use Rattle.trees.specs.Held as trees
-use Rattle.heap.specs.Words.{self-held, program-held}
+use Rattle.heap.specs.Words.{self-held, program-held, set-self, set-program}
 use Rattle.heap.specs.Held.{frames-held, heap-held}
 use Rattle.paths.specs.Paths.{path-held}
 use Rattle.puts.specs.Puts.{target-along, put-slot}
@@ -27,7 +27,6 @@ use Rattle.bounded.specs.Check.{slot-end, target-end, check}
 use Rattle.producing.specs.Producing.{operation-held}
 use Rattle.commit.specs.Commit.{put-along, Jumps, Commits}
 use Rattle.direct.specs.declared.Given.{Given}
-use Rattle.direct.specs.declared.Done.{Done}
 
 -- ---- Values
 
@@ -81,6 +80,15 @@ pub record Puts (p h : List ℕ) (root : Value) (j n : ℕ) (v : Value) (r : ℕ
   pub end : r ≡ target-end (frames-held h) (target-along (frames-held h) root (path-held p j n))
   pub words : h′ ≡ unless-ended r (put-along p h root j n v) h
 
+-- self or the program, and the words with it
+unfoldable pub root-of : Bool → List ℕ → Value
+root-of true h = self-held h
+root-of false h = program-held h
+
+unfoldable pub set-root : Bool → List ℕ → Value → List ℕ
+set-root true h v = set-self h v
+set-root false h v = set-program h v
+
 -- the same, where an empty path has the words h₀
 pub record PutsFrom (p h h₀ : List ℕ) (root : Value) (j n : ℕ) (v : Value) (r : ℕ) (h′ : List ℕ) : Type 0 where
   pub end : r ≡ put-end p h root j n
@@ -88,15 +96,10 @@ pub record PutsFrom (p h h₀ : List ℕ) (root : Value) (j n : ℕ) (v : Value)
 
 -- ---- Jumps
 
--- the answer, by the end
-unfoldable pub of-end : ℕ → Done
-of-end zero = Done.Made
-of-end (suc e) = Done.Ended (suc e)
-
-pub record JumpsOnce (p l h : List ℕ) (a c : ℕ) (r : Done) (h′ : List ℕ) : Type 0 where
-  pub answer : r ≡ of-end (jump-end p h a c)
+pub record JumpsOnce (p l h : List ℕ) (a c r : ℕ) (h′ : List ℕ) : Type 0 where
+  pub end : r ≡ jump-end p h a c
   pub jumps : Jumps p l h a c h′
-  pub kept : (e : ℕ) → r ≡ Done.Ended e → h′ ≡ h
+  pub kept : (r ≡ 0 → ⊥) → h′ ≡ h
 
 -- ---- Instructions
 
@@ -113,6 +116,11 @@ pub record CanDo (p l h t : List ℕ) (i : ℕ) : Type 0 where
 pub record CanDoEntry (p l h t : List ℕ) (i : ℕ) (e : InstructionEntry) : Type 0 where
   pub can : CanDo p l h t i
   pub entry : e ≡ instruction-at p i
+
+-- `:=` from self or from the program, along the n path names from j on, of expression x
+unfoldable pub assignment : Bool → ℕ → ℕ → ℕ → InstructionEntry
+assignment true j n x = InstructionEntry.AssignSelf j n x
+assignment false j n x = InstructionEntry.AssignProgram j n x
 
 -- it makes no frame and no text
 pub record MakesNothing (p : List ℕ) (i : ℕ) : Type 0 where
@@ -138,8 +146,8 @@ module _ (p l h t : List ℕ) (i : ℕ) where
     pub some : e ≡ 0 → ⊥
     pub words : h′ ≡ h
 
-  -- by the answer
-  pub record Does (r : Done) (h′ : List ℕ) : Type 0 where
-    pub made : r ≡ Done.Made → IsMade h′
-    pub ended : (e : ℕ) → r ≡ Done.Ended e → IsEnded e h′
-    pub other : r ≡ Done.Other → h′ ≡ h
+  -- by the answer: 0 made, 255 not looked at, else the end
+  pub record Does (r : ℕ) (h′ : List ℕ) : Type 0 where
+    pub made : r ≡ 0 → IsMade h′
+    pub ended : (r ≡ 0 → ⊥) → (r ≡ 255 → ⊥) → IsEnded r h′
+    pub other : r ≡ 255 → h′ ≡ h

@@ -1,4 +1,5 @@
 // An instruction that makes no frame and no text, in one go: each operand is read once and each path walked once, and an end that is met leaves the words as they are.
+// What became of it is a number: 0 it is made, 31 to 35 the end that it meets, 255 it was not looked at, as it makes something or shows.
 use framed::Text;
 use framed::Value;
 use operators::Operated;
@@ -11,19 +12,12 @@ ghost use mathlib.Core.Path.{_≡_};
 ghost use Prim.Native.Nat.{_<_};
 ghost use Rattle.framed.specs.Machine.{defined};
 ghost use Rattle.tables.specs.declared.InstructionEntry.{InstructionEntry};
-ghost use Rattle.heap.specs.Words.{self-held, program-held, set-self, set-program};
+ghost use Rattle.tables.specs.Fields.{instruction-a, instruction-b, instruction-c};
 ghost use Rattle.paths.specs.Paths.{fetched};
 ghost use Rattle.texts.specs.Texts.{Readable};
 ghost use Rattle.operands.specs.Operands.{operand-value};
 ghost use Rattle.commit.specs.Commit.{CanJump};
-ghost use Rattle.direct.specs.Direct.{of-base, of-not, operation-given, expression-given, PutsSlot, Puts, PutsFrom, JumpsOnce, CanDo, CanDoEntry, Does};
-
-// What became of an instruction: made, the end that it meets, or not looked at, as it makes something or shows.
-pub enum Done {
-    Made,
-    Ended(u32),
-    Other,
-}
+ghost use Rattle.direct.specs.Direct.{of-base, of-not, operation-given, expression-given, PutsSlot, Puts, root-of, set-root, PutsFrom, JumpsOnce, assignment, CanDo, CanDoEntry, Does};
 
 // The value of an expression that makes nothing, the end that it meets, or that it makes something.
 pub enum Given {
@@ -131,127 +125,107 @@ fn put(p: &[u32], h: &mut [u32], root: Value, j: u32, n: u32, v: Value) -> u32
     put_slot(h, f, name, v)
 }
 
-// Put from self; an empty path sets self.
-fn put_from_self(p: &[u32], h: &mut [u32], j: u32, n: u32, v: Value) -> u32
-    ensures { λ r. ⌜ PutsFrom (now (p .entry)) (now (h .entry)) (set-self (now (h .entry)) v) (self-held (now (h .entry))) j n v r (now (h .exit)) ⌝ }
+// Self where `own`, else the program.
+fn root(h: &[u32], own: bool) -> Value
+    ensures { λ r. ⌜ r ≡ root-of own (now (h .entry)) ⌝ }
 {
-    if n == 0 {
+    if own {
+        return heap::self_value(h);
+    }
+    heap::program_value(h)
+}
+
+fn set_root(h: &mut [u32], own: bool, v: Value)
+    ensures { λ _. ⌜ now (h .exit) ≡ set-root own (now (h .entry)) v ⌝ }
+{
+    if own {
         heap::set_self(h, v);
-        return 0;
+        return;
     }
-    put(p, h, heap::self_value(h), j, n, v)
+    heap::set_program(h, v);
 }
 
-// The same from the program.
-fn put_from_program(p: &[u32], h: &mut [u32], j: u32, n: u32, v: Value) -> u32
-    ensures { λ r. ⌜ PutsFrom (now (p .entry)) (now (h .entry)) (set-program (now (h .entry)) v) (program-held (now (h .entry))) j n v r (now (h .exit)) ⌝ }
+// Put from self or the program; an empty path sets it.
+fn put_from(p: &[u32], h: &mut [u32], own: bool, j: u32, n: u32, v: Value) -> u32
+    ensures { λ r. ⌜ PutsFrom (now (p .entry)) (now (h .entry)) (set-root own (now (h .entry)) v) (root-of own (now (h .entry))) j n v r (now (h .exit)) ⌝ }
 {
     if n == 0 {
-        heap::set_program(h, v);
+        set_root(h, own, v);
         return 0;
     }
-    put(p, h, heap::program_value(h), j, n, v)
+    put(p, h, root(h, own), j, n, v)
 }
 
-fn assign_self<'a>(
-    p: &[u32],
-    l: &'a [u8],
-    h: &mut [u32],
-    t: &'a [u8],
-    i: u32,
-    j: u32,
-    n: u32,
-    x: u32,
-) -> Done
-    requires { ⌜ CanDoEntry (now p) (now l) (now h) (now t) i (InstructionEntry.AssignSelf j n x) ⌝ }
+// `:=` along a path from self where `own`, else from the program.
+fn assign<'a>(p: &[u32], l: &'a [u8], h: &mut [u32], t: &'a [u8], i: u32, own: bool) -> u32
+    requires { ⌜ CanDoEntry (now p) (now l) (now h) (now t) i (assignment own (instruction-a (now p) i) (instruction-b (now p) i) (instruction-c (now p) i)) ⌝ }
     ensures { λ r. ⌜ Does (now (p .entry)) (now (l .entry)) (now (h .entry)) (now (t .entry)) i r (now (h .exit)) ⌝ }
 {
-    match expression(p, l, h, t, x) {
+    match expression(p, l, h, t, tables::instruction_c(p, i)) {
         Given::Value(v) => {
-            let e = put_from_self(p, h, j, n, v);
+            let j = tables::instruction_a(p, i);
+            let n = tables::instruction_b(p, i);
+            let e = put_from(p, h, own, j, n, v);
             if e != 0 {
-                return Done::Ended(e);
+                return e;
             }
             commit::go_on(p, h, i);
-            Done::Made
+            0
         }
-        Given::Ended(e) => Done::Ended(e),
-        Given::Makes => Done::Other,
-    }
-}
-
-fn assign_program<'a>(
-    p: &[u32],
-    l: &'a [u8],
-    h: &mut [u32],
-    t: &'a [u8],
-    i: u32,
-    j: u32,
-    n: u32,
-    x: u32,
-) -> Done
-    requires { ⌜ CanDoEntry (now p) (now l) (now h) (now t) i (InstructionEntry.AssignProgram j n x) ⌝ }
-    ensures { λ r. ⌜ Does (now (p .entry)) (now (l .entry)) (now (h .entry)) (now (t .entry)) i r (now (h .exit)) ⌝ }
-{
-    match expression(p, l, h, t, x) {
-        Given::Value(v) => {
-            let e = put_from_program(p, h, j, n, v);
-            if e != 0 {
-                return Done::Ended(e);
-            }
-            commit::go_on(p, h, i);
-            Done::Made
-        }
-        Given::Ended(e) => Done::Ended(e),
-        Given::Makes => Done::Other,
+        Given::Ended(e) => e,
+        Given::Makes => 255,
     }
 }
 
 // The first operand must be code, the second have a value: then the code replaces the rest, and self becomes the second.
-fn jump(p: &[u32], l: &[u8], h: &mut [u32], a: u32, c: u32) -> Done
+fn jump(p: &[u32], l: &[u8], h: &mut [u32], a: u32, c: u32) -> u32
     requires { ⌜ CanJump (now p) (now l) (now h) a c ⌝ }
     ensures { λ r. ⌜ JumpsOnce (now (p .entry)) (now (l .entry)) (now (h .entry)) a c r (now (h .exit)) ⌝ }
 {
     let Fetched::Found(v) = operands::operand(p, h, a) else {
-        return Done::Ended(31);
+        return 31;
     };
     let Value::Code(k) = v else {
-        return Done::Ended(31);
+        return 31;
     };
     let Fetched::Found(w) = operands::operand(p, h, c) else {
-        return Done::Ended(31);
+        return 31;
     };
     heap::set_self(h, w);
     heap::set_position(h, commit::first_place(p, k));
-    Done::Made
+    0
 }
 
 // Integer 0 jumps; any other value goes on.
-fn branch(p: &[u32], l: &[u8], h: &mut [u32], t: &[u8], i: u32, a: u32, c: u32, d: u32) -> Done
+fn branch(p: &[u32], l: &[u8], h: &mut [u32], t: &[u8], i: u32, a: u32, c: u32, d: u32) -> u32
     requires { ⌜ CanDoEntry (now p) (now l) (now h) (now t) i (InstructionEntry.Ifeq a c d) ⌝ }
     ensures { λ r. ⌜ Does (now (p .entry)) (now (l .entry)) (now (h .entry)) (now (t .entry)) i r (now (h .exit)) ⌝ }
 {
     let Fetched::Found(v) = operands::operand(p, h, a) else {
-        return Done::Ended(31);
+        return 31;
     };
     if texts::truth(v) {
         commit::go_on(p, h, i);
-        return Done::Made;
+        return 0;
     }
     jump(p, l, h, c, d)
 }
 
 // Instruction i, where it makes nothing and shows nothing.
-pub fn direct<'a>(p: &[u32], l: &'a [u8], h: &mut [u32], t: &'a [u8], i: u32) -> Done
+pub fn direct<'a>(p: &[u32], l: &'a [u8], h: &mut [u32], t: &'a [u8], i: u32) -> u32
     requires { ⌜ CanDo (now p) (now l) (now h) (now t) i ⌝ }
     ensures { λ r. ⌜ Does (now (p .entry)) (now (l .entry)) (now (h .entry)) (now (t .entry)) i r (now (h .exit)) ⌝ }
 {
+    let kind = tables::instruction_kind(p, i);
+    if kind < 2 {
+        return assign(p, l, h, t, i, kind == 0);
+    }
     match tables::instruction_at(p, i) {
-        InstructionEntry::AssignSelf(j, n, x) => assign_self(p, l, h, t, i, j, n, x),
-        InstructionEntry::AssignProgram(j, n, x) => assign_program(p, l, h, t, i, j, n, x),
-        InstructionEntry::Show(_) => Done::Other,
+        InstructionEntry::AssignSelf(_, _, _) => 255,
+        InstructionEntry::AssignProgram(_, _, _) => 255,
+        InstructionEntry::Show(_) => 255,
         InstructionEntry::Jump(a, c) => jump(p, l, h, a, c),
         InstructionEntry::Ifeq(a, c, d) => branch(p, l, h, t, i, a, c, d),
-        InstructionEntry::Bad => Done::Other,
+        InstructionEntry::Bad => 255,
     }
 }

@@ -27,7 +27,7 @@ use Rattle.heap.specs.Words.{self-held, program-held, take-frame, add-slot}
 use Rattle.heap.specs.Held.{frames-in-use, texts-in-use}
 use Rattle.heap.specs.Closed.{FrameInUse}
 use Rattle.allocation.specs.Allocation.{next-frame}
-use Rattle.allocation.specs.Known.{FullBelow}
+use Rattle.allocation.specs.Known.{Full}
 use Rattle.bounded.specs.Bounded.{Produced, evaluate, fill}
 use Rattle.word_store.specs.Store.{Memories, word-store, claim-frame}
 use Rattle.word_store.specs.State.{store-held}
@@ -41,8 +41,11 @@ pub claim-done : (h : List ℕ) (f : ℕ) (h′ : List ℕ) → f ≡ next-frame
 unfolding claim-frame
 claim-done h f h′ ef eh = record { answer = ef; words = eh ∙ rw ef }
 
-full-after : {h t h′ t′ : List ℕ} {f n low : ℕ} → Leaves h t f n h′ t′ → FullBelow h low → FullBelow h′ low
-full-after l a = record { in-use = λ g lt. l .stay g (a .in-use g lt) }
+full-after : {h t h′ t′ : List ℕ} {f n low least : ℕ} → Leaves h t f n h′ t′ → Full h low least → Full h′ low least
+full-after l a = record {
+  frames = record { in-use = λ g lt. l .stay g (a .frames .in-use g lt) };
+  texts = record { in-use = λ k lt. l .stay-text k (a .texts .in-use k lt) };
+}
 
 -- ---- The measure: an expression is above its slots, a slot above what follows
 
@@ -101,8 +104,8 @@ module _ (p l h t : List ℕ) (x : ℕ) (can : CanEvaluate p l h t x) (e : Expre
       };
     }
 
-    pub evaluate-full : (low : ℕ) → FullBelow h low → FullBelow h₁ low
-    evaluate-full low a = full-after left a
+    pub evaluate-full : (low least : ℕ) → Full h low least → Full h₁ low least
+    evaluate-full low least a = full-after left a
 
     pub evaluate-falls : (m : ℕ) → 2 * (1024 - x) ≡ m → slots-left z < m
     evaluate-falls m em = rw ez (let q = links-up x d x-small in omega arith)
@@ -115,7 +118,7 @@ module _ (p l h t : List ℕ) (x : ℕ) (can : CanEvaluate p l h t x) (e : Expre
         let b = signs-are in
         record {
           produced = rw tree-is (make (rw (self-kept (left .header), program-kept (left .header)) at (k .stored)));
-          leaves = record { header = v .header; stay = v .stay; sized = v .sized; text-size = v .text-size; frames = let q = v .frames in omega arith; texts = let q = v .texts in omega arith };
+          leaves = record { header = v .header; stay = v .stay; stay-text = v .stay-text; sized = v .sized; text-size = v .text-size; frames = let q = v .frames in omega arith; texts = let q = v .texts in omega arith };
           fits = fits-frame f;
         }
       where
@@ -198,8 +201,8 @@ module _ (p l h t : List ℕ) (f z : ℕ) (can : CanFill p l h t f z) where
         };
       })
 
-      pub fill-full : (low : ℕ) → FullBelow h low → FullBelow h₂ low
-      fill-full low a = full-after so-far a
+      pub fill-full : (low least : ℕ) → Full h low least → Full h₂ low least
+      fill-full low least a = full-after so-far a
 
       pub fill-on-falls : (k : ℕ) → slots-left z ≡ k → slots-left w < k
       unfolding slots-left
@@ -216,7 +219,7 @@ module _ (p l h t : List ℕ) (f z : ℕ) (can : CanFill p l h t f z) where
           let c = leaves-both so-far (rw ew at (k .leaves)) in
           record {
             stored = rw slots-are (go (rw (self-kept (so-far .header), program-kept (so-far .header), ew) at (k .stored)));
-            leaves = record { header = c .header; stay = c .stay; sized = c .sized; text-size = c .text-size; frames = let q = c .frames in omega arith; texts = let q = c .texts in omega arith };
+            leaves = record { header = c .header; stay = c .stay; stay-text = c .stay-text; sized = c .sized; text-size = c .text-size; frames = let q = c .frames in omega arith; texts = let q = c .texts in omega arith };
           }
         where
           go : fill word-store (strings p l) (self-held h) (program-held h) f (slots-held p (slot-after p y)) (store-held h₂ t₁) ≡ store-held h₃ t₃ →

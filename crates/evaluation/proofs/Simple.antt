@@ -189,7 +189,7 @@ module _ (p l h t : List ℕ) (x : ℕ) (can : CanEvaluate p l h t x) (k a b : �
       let e = signs in
       record {
         produced = rw tree-is (ap (λ (q : Result Product). produce word-store q (store-held h t)) results-agree ∙ m .produced);
-        leaves = record { header = v .header; stay = v .stay; sized = v .sized; text-size = v .text-size; frames = let q = v .frames in omega arith; texts = let q = v .texts in omega arith };
+        leaves = record { header = v .header; stay = v .stay; stay-text = v .stay-text; sized = v .sized; text-size = v .text-size; frames = let q = v .frames in omega arith; texts = let q = v .texts in omega arith };
         fits = subst ValueFits (ap (λ (q : Produced Memories). q .value) (m .produced)) (produce-fits _ operation-modest (store-held h t));
       }
 

@@ -24,7 +24,7 @@ use Rattle.word_store.specs.Store.{Memories, word-store, claim-frame}
 use Rattle.word_store.specs.State.{store-held, state-held, HeldAfter, HeldRead}
 use Rattle.word_store.proofs.Updates.{KeepsHeader, keeps-claim, keeps-add, held-read, held-after}
 use Rattle.producing.specs.Producing.{HeaderKept, HasRoom, Leaves}
-use Rattle.producing.proofs.Leaves.{header-kept, leaves-none, in-use-stay}
+use Rattle.producing.proofs.Leaves.{header-kept, leaves-none, in-use-stay, texts-stay}
 use Rattle.evaluation.specs.Evaluation.{Claims}
 
 -- ---- What the store shows
@@ -81,6 +81,7 @@ module _ (h t : List ℕ) (s : Sized h) (size : length t ≡ 16384) where
         record {
           header = header-kept (keeps-claim h);
           stay = stays below;
+          stay-text = texts-stay (take-frame-texts h s (next-frame h) below .in-use);
           sized = take-frame-sized h s (next-frame h) below;
           text-size = size;
           frames = let e = take-frame-count-one h s (next-frame h) below (next-frame-free h few) in omega arith;
@@ -107,6 +108,7 @@ module _ (h t : List ℕ) (s : Sized h) (size : length t ≡ 16384) where
           record {
             header = header-kept (keeps-add h f x v);
             stay = in-use-stay e;
+            stay-text = texts-stay (c .in-use);
             sized = add-slot-sized h s f (u .small) (u .used) x v lt;
             text-size = size;
             frames = let q = ap length e in omega arith;

@@ -1,7 +1,7 @@
 // The value of an expression, which makes its frames and texts: the last part of a step, after reserve and check.
 use framed::Value;
 use tables::ExpressionEntry;
-ghost use Rattle.allocation.specs.Known.{FullBelow};
+ghost use Rattle.allocation.specs.Known.{FullBelow, TextsFull, Full};
 ghost use Rattle.evaluation.specs.Evaluation.{Claims, CanEvaluate, Flat, Evaluates, CanFill, Fills};
 
 // The lowest frame not in use is taken, without slots; those below `low` are in use.
@@ -14,42 +14,60 @@ pub fn claim(h: &mut [u32], low: u32) -> u32
     f
 }
 
-// The value of an expression that is no frame literal.
-pub fn flat(p: &[u32], l: &[u8], h: &mut [u32], t: &mut [u8], x: u32) -> Value
+// The value of an expression that is no frame literal; the made texts below `low` are in use.
+pub fn flat(p: &[u32], l: &[u8], h: &mut [u32], t: &mut [u8], x: u32, low: u32) -> Value
     requires { ⌜ Flat (now p) (now l) (now h) (now t) x ⌝ }
+    requires { ⌜ TextsFull (now h) low ⌝ }
     ensures { λ r. ⌜ Evaluates (now (p .entry)) (now (l .entry)) (now (h .entry)) (now (t .entry)) x r (now (h .exit)) (now (t .exit)) ⌝ }
 {
     let ExpressionEntry::Operate(kind, a, b) = tables::expression_at(p, x) else {
         return producing::read(p, h, x);
     };
-    producing::operation(p, l, h, t, kind, a, b)
+    producing::operation(p, l, h, t, kind, a, b, low)
 }
 
 // The value of an expression. A frame literal claims its frame first, then its slots are filled in.
-pub fn evaluate(p: &[u32], l: &[u8], h: &mut [u32], t: &mut [u8], x: u32, low: u32) -> Value
+pub fn evaluate(
+    p: &[u32],
+    l: &[u8],
+    h: &mut [u32],
+    t: &mut [u8],
+    x: u32,
+    low: u32,
+    least: u32,
+) -> Value
     requires { ⌜ CanEvaluate (now p) (now l) (now h) (now t) x ⌝ }
-    requires { ⌜ FullBelow (now h) low ⌝ }
+    requires { ⌜ Full (now h) low least ⌝ }
     ensures { λ r. ⌜ Evaluates (now (p .entry)) (now (l .entry)) (now (h .entry)) (now (t .entry)) x r (now (h .exit)) (now (t .exit)) ⌝ }
 {
     let ExpressionEntry::Frame(d) = tables::expression_at(p, x) else {
-        return flat(p, l, h, t, x);
+        return flat(p, l, h, t, x, least);
     };
     let f = claim(h, low);
-    fill(p, l, h, t, f, tables::link(1024, x, d), low);
+    fill(p, l, h, t, f, tables::link(1024, x, d), low, least);
     Value::Frame(f)
 }
 
 // The slots from the place z on: each is evaluated, then pushed on frame f.
-pub fn fill(p: &[u32], l: &[u8], h: &mut [u32], t: &mut [u8], f: u32, z: u32, low: u32)
+pub fn fill(
+    p: &[u32],
+    l: &[u8],
+    h: &mut [u32],
+    t: &mut [u8],
+    f: u32,
+    z: u32,
+    low: u32,
+    least: u32,
+)
     requires { ⌜ CanFill (now p) (now l) (now h) (now t) f z ⌝ }
-    requires { ⌜ FullBelow (now h) low ⌝ }
+    requires { ⌜ Full (now h) low least ⌝ }
     ensures { λ _. ⌜ Fills (now (p .entry)) (now (l .entry)) (now (h .entry)) (now (t .entry)) f z (now (h .exit)) (now (t .exit)) ⌝ }
 {
     if z == 0 {
         return;
     }
     let y = z - 1;
-    let v = evaluate(p, l, h, t, y, low);
+    let v = evaluate(p, l, h, t, y, low, least);
     heap::add_slot(h, f, tables::slot_name(p, y), v);
-    fill(p, l, h, t, f, tables::slot_after(p, y), low);
+    fill(p, l, h, t, f, tables::slot_after(p, y), low, least);
 }

@@ -1,5 +1,5 @@
 -- One law for each way through the functions that count, for what each call asks and for each fall of the measure. Assumes nothing.
-use Prim.Native.Nat.{ℕ, _+_, _-_, _<_}
+use Prim.Native.Nat.{ℕ, _+_, _-_, _*_, _≤_, _<_}
 use mathlib.Core.Path.{_≡_, refl, _∙_, ap, sym}
 use mathlib.Core.List.{List, [], _∷_}
 use mathlib.Core.Bool.{Bool, true, false}
@@ -24,8 +24,15 @@ use Rattle.trees.specs.Held.{base-held, expression-held, slots-held, instructio
 use Rattle.trees.proofs.Held.{one-level-held, assign-self-held, assign-program-held, show-held, jump-held, ifeq-held}
 use Rattle.places.specs.Places.{AtExpression, AtSlots, AtInstruction, expression-measure, slots-measure}
 use Rattle.places.proofs.Laws as places
-use Rattle.needs.specs.Needs.{cap, join-sign, RightSide}
-use Rattle.needs.proofs.Cap.{cap-small, cap-right, cap-add}
+use Rattle.needs.specs.Needs.{cap, both, summed, join-sign, RightSide}
+use Rattle.needs.proofs.Cap.{cap-small, most, both-sum}
+
+ap-both : {f g n m : ℕ} → f ≡ g → n ≡ m → both f n ≡ both g m
+ap-both e q = rw (e, q)
+
+one : 1 ≡ both 1 0
+unfolding both cap
+one = refl
 
 -- ---- A frame literal: its slots
 
@@ -45,13 +52,12 @@ module _ (p : List ℕ) (x : ℕ) (a : AtExpression p x) (e : ExpressionEntry) (
   frame-open : expression-held p x ≡ Expression.frame (slots-held p z)
   frame-open = places.frame-open p (a .literal-bytes) (a .program) x d z (a .there) (sym at ∙ is) here
 
-  pub frames-frame : (n r : ℕ) → n ≡ cap (frame-literals-in (slots-held p z)) → r ≡ cap (1 + n) → r ≡ cap (frame-literals (expression-held p x))
-  unfolding frame-literals
-  frames-frame n r en er = rw (er, en, frame-open) (cap-right 1 (frame-literals-in (slots-held p z)) ∙ ap cap (omega arith))
-
-  pub joins-frame : (r : ℕ) → r ≡ cap (join-signs-in (slots-held p z)) → r ≡ cap (join-signs (expression-held p x))
-  unfolding join-signs
-  joins-frame r er = rw (er, frame-open)
+  pub made-frame : (n r : ℕ) → n ≡ both (frame-literals-in (slots-held p z)) (join-signs-in (slots-held p z)) → r ≡ summed 1 n
+      → r ≡ both (frame-literals (expression-held p x)) (join-signs (expression-held p x))
+  unfolding frame-literals join-signs
+  made-frame n r en er =
+      rw (er, en, frame-open)
+      (ap (λ k. summed k (both (frame-literals-in (slots-held p z)) (join-signs-in (slots-held p z)))) one ∙ both-sum 1 0 (frame-literals-in (slots-held p z)) (join-signs-in (slots-held p z)) ∙ ap-both (omega arith) (omega arith))
 
 -- ---- Any other expression
 
@@ -110,11 +116,13 @@ module _ (p : List ℕ) (x : ℕ) (a : AtExpression p x) (e : ExpressionEntry) (
   other-open : expression-held p x ≡ expression-tree (held p) p x e
   other-open = one-level-held p (a .literal-bytes) (a .program) .expression x (a .there) ∙ ap (expression-tree (held p) p x) (sym at)
 
-  pub frames-other : 0 ≡ cap (frame-literals (expression-held p x))
-  frames-other = rw (other-open, no-frames (held p) p x e k) (sym (cap-small 0 (omega arith)))
+  pub made-other : (r : ℕ) → r ≡ join-sign e → 512 * r ≡ both (frame-literals (expression-held p x)) (join-signs (expression-held p x))
+  unfolding both
+  made-other r er =
+      rw (er, other-open, no-frames (held p) p x e k, own-joins (held p) p x e k, cap-sign e, cap-small 0 (omega arith)) (omega arith)
 
-  pub joins-other : (r : ℕ) → r ≡ join-sign e → r ≡ cap (join-signs (expression-held p x))
-  joins-other r er = rw (er, other-open, own-joins (held p) p x e k) (sym (cap-sign e))
+pub sign-few : (e : ExpressionEntry) (r : ℕ) → r ≡ join-sign e → r ≤ 257
+sign-few e r er = most (join-sign e) r (er ∙ sym (cap-sign e))
 
 pub sign-other : (e : ExpressionEntry) → OneOf (0 ∷ 1 ∷ 2 ∷ 3 ∷ 4 ∷ 5 ∷ 6 ∷ 8 ∷ []) (tagOf the-type e) → 0 ≡ join-sign e
 unfolding join-sign
@@ -150,56 +158,63 @@ module _ (e : ExpressionEntry) (o a b : ℕ) (is : e ≡ ExpressionEntry.Operate
 
 -- ---- The slots from a place on
 
-module _ (p : List ℕ) (z : ℕ) (a : AtSlots p z) where
-  module _ (e : z ≡ 0) where
-    ended : slots-held p z ≡ Slots.no-slots
-    ended = ap (slots-held p) e ∙ one-level-held p (a .literal-bytes) (a .program) .no-slots
+module _ (p : List ℕ) (from : ℕ) where
+  -- n is f and t of the slots before the place z
+  pub record Counted (n z : ℕ) : Type 0 where
+    at : AtSlots p z
+    fewer : slots-measure z ≤ slots-measure from
+    frames-so-far : ℕ
+    joins-so-far : ℕ
+    is : n ≡ both frames-so-far joins-so-far
+    frames : frames-so-far + frame-literals-in (slots-held p z) ≡ frame-literals-in (slots-held p from)
+    joins : joins-so-far + join-signs-in (slots-held p z) ≡ join-signs-in (slots-held p from)
 
-    pub frames-end : 0 ≡ cap (frame-literals-in (slots-held p z))
-    unfolding frame-literals
-    frames-end = rw ended (sym (cap-small 0 (omega arith)))
+  pub counted-none : AtSlots p from → Counted 0 from
+  unfolding both cap
+  counted-none a = record { at = a; fewer = omega arith; frames-so-far = 0; joins-so-far = 0; is = refl; frames = omega arith; joins = omega arith }
 
-    pub joins-end : 0 ≡ cap (join-signs-in (slots-held p z))
-    unfolding join-signs
-    joins-end = rw ended (sym (cap-small 0 (omega arith)))
+  module _ (n z : ℕ) (k : Counted n z) where
+    pub counted-all : z ≡ 0 → n ≡ both (frame-literals-in (slots-held p from)) (join-signs-in (slots-held p from))
+    unfolding frame-literals join-signs
+    counted-all e = rw (k .is, ← k .frames, ← k .joins, ended) (ap-both (omega arith) (omega arith))
+      where
+        ended : slots-held p z ≡ Slots.no-slots
+        ended = ap (slots-held p) e ∙ one-level-held p (k .at .literal-bytes) (k .at .program) .no-slots
 
-  module _ (ne : z ≡ 0 → ⊥) where
-    pub slot-expression : AtExpression p (z - 1)
-    slot-expression =
-        record {
-          literal-bytes = a .literal-bytes;
-          program = a .program;
-          there = places.slot-there p (a .literal-bytes) (a .program) z (a .place) ne;
-        }
-
-    pub slot-falls : (t : ℕ) → slots-measure z ≡ t → expression-measure (z - 1) < t
-    slot-falls t q = rw (← q) (places.slot-falls p (a .literal-bytes) (a .program) z (a .place) ne)
-
-    module _ (n : ℕ) (next : n ≡ slot-after p (z - 1)) where
-      pub next-slots : AtSlots p n
-      next-slots =
+    module _ (ne : z ≡ 0 → ⊥) where
+      pub slot-expression : AtExpression p (z - 1)
+      slot-expression =
           record {
-            literal-bytes = a .literal-bytes;
-            program = a .program;
-            place = places.next-place p (a .literal-bytes) (a .program) z (a .place) ne n next;
+            literal-bytes = k .at .literal-bytes;
+            program = k .at .program;
+            there = places.slot-there p (k .at .literal-bytes) (k .at .program) z (k .at .place) ne;
           }
 
-      pub next-falls : (t : ℕ) → slots-measure z ≡ t → slots-measure n < t
-      next-falls t q = rw (← q) (places.next-falls p (a .literal-bytes) (a .program) z (a .place) ne n next)
+      pub slot-falls : (t : ℕ) → slots-measure from ≡ t → expression-measure (z - 1) < t
+      slot-falls t q =
+          let a = places.slot-falls p (k .at .literal-bytes) (k .at .program) z (k .at .place) ne in
+          let b = k .fewer in
+          omega arith
 
-      pub frames-slot : (b c r : ℕ) → b ≡ cap (frame-literals (expression-held p (z - 1))) → c ≡ cap (frame-literals-in (slots-held p n)) → r ≡ cap (b + c)
-          → r ≡ cap (frame-literals-in (slots-held p z))
-      unfolding frame-literals
-      frames-slot b c r eb ec er =
-          rw (er, eb, ec, places.slots-open p (a .literal-bytes) (a .program) z (a .place) ne n next)
-          (cap-add (frame-literals (expression-held p (z - 1))) (frame-literals-in (slots-held p n)))
+      module _ (m : ℕ) (next : m ≡ slot-after p (z - 1)) where
+        pub next-falls : slots-measure m < slots-measure z
+        next-falls = places.next-falls p (k .at .literal-bytes) (k .at .program) z (k .at .place) ne m next
 
-      pub joins-slot : (b c r : ℕ) → b ≡ cap (join-signs (expression-held p (z - 1))) → c ≡ cap (join-signs-in (slots-held p n)) → r ≡ cap (b + c)
-          → r ≡ cap (join-signs-in (slots-held p z))
-      unfolding join-signs
-      joins-slot b c r eb ec er =
-          rw (er, eb, ec, places.slots-open p (a .literal-bytes) (a .program) z (a .place) ne n next)
-          (cap-add (join-signs (expression-held p (z - 1))) (join-signs-in (slots-held p n)))
+        pub counted-more : (o r : ℕ) → o ≡ both (frame-literals (expression-held p (z - 1))) (join-signs (expression-held p (z - 1))) → r ≡ summed n o → Counted r m
+        unfolding frame-literals join-signs
+        counted-more o r eo er = record {
+          at = record {
+            literal-bytes = k .at .literal-bytes;
+            program = k .at .program;
+            place = places.next-place p (k .at .literal-bytes) (k .at .program) z (k .at .place) ne m next;
+          };
+          fewer = let a = next-falls in let b = k .fewer in omega arith;
+          frames-so-far = k .frames-so-far + frame-literals (expression-held p (z - 1));
+          joins-so-far = k .joins-so-far + join-signs (expression-held p (z - 1));
+          is = rw (er, k .is, eo) (both-sum (k .frames-so-far) (k .joins-so-far) (frame-literals (expression-held p (z - 1))) (join-signs (expression-held p (z - 1))));
+          frames = let a = rw (places.slots-open p (k .at .literal-bytes) (k .at .program) z (k .at .place) ne m next) at (k .frames) in omega arith;
+          joins = let a = rw (places.slots-open p (k .at .literal-bytes) (k .at .program) z (k .at .place) ne m next) at (k .joins) in omega arith;
+        }
 
 -- ---- The expression of an instruction
 
@@ -244,9 +259,6 @@ module _ (p : List ℕ) (i : ℕ) (a : AtInstruction p i) (e : InstructionEntry)
 
 -- ---- f and t
 
-module _ (p : List ℕ) (i x r : ℕ) (s : RightSide p i x) where
-  pub frames-side : r ≡ cap (frame-literals (expression-held p x)) → r ≡ cap (frame-literals (right-side (instruction-held p i)))
-  frames-side e = rw (← s .is) e
-
-  pub joins-side : r ≡ cap (join-signs (expression-held p x)) → r ≡ cap (join-signs (right-side (instruction-held p i)))
-  joins-side e = rw (← s .is) e
+pub made-side : (p : List ℕ) (i x r : ℕ) → RightSide p i x → r ≡ both (frame-literals (expression-held p x)) (join-signs (expression-held p x))
+    → r ≡ both (frame-literals (right-side (instruction-held p i))) (join-signs (right-side (instruction-held p i)))
+made-side p i x r s e = rw (← s .is) e

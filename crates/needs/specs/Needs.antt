@@ -1,7 +1,7 @@
 -- Document 01, "The endless machine", room (here: reserve): f and t of an instruction over program words p. Assumes nothing.
 use mathlib.Core.Path.{_≡_}
 use mathlib.Core.List.{List}
-use Prim.Native.Nat.{ℕ, _+_, _≤_}
+use Prim.Native.Nat.{ℕ, _+_, _*_, _/_, _%_, _≤_}
 use lib.Dec.{ltb}
 use Rattle.words.specs.Words.{pick}
 use Rattle.framed.specs.Machine.{is-join, right-side}
@@ -13,6 +13,14 @@ use Rattle.places.specs.Places.{AtExpression}
 -- f and t are counted up to 257
 unfoldable pub cap : ℕ → ℕ
 cap n = pick (ltb n 257) n 257
+
+-- f and t in one number
+unfoldable pub both : ℕ → ℕ → ℕ
+both f n = cap f + 512 * cap n
+
+-- the sum of two such numbers
+unfoldable pub summed : ℕ → ℕ → ℕ
+summed a b = cap (a % 512 + b % 512) + 512 * cap (a / 512 + b / 512)
 
 -- F and T are at most 256, so the comparison with them says the same
 abbrev pub CapCompares : Type 0

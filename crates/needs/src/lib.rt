@@ -1,12 +1,13 @@
 // f and t of an instruction: the frame literals and the `#` signs of its expression, those inside code left out. Counted up to 257: F and T are at most 256.
+// One walk counts both, in one number: f + 512 t.
 use tables::ExpressionEntry;
 use tables::InstructionEntry;
 ghost use mathlib.Core.Path.{_≡_};
-ghost use Prim.Native.Nat.{_+_};
+ghost use Prim.Native.Nat.{_+_, _%_, _/_};
 ghost use Rattle.framed.specs.Machine.{frame-literals, frame-literals-in, join-signs, join-signs-in, right-side};
 ghost use Rattle.trees.specs.Held.{expression-held, slots-held, instruction-held};
 ghost use Rattle.places.specs.Places.{AtExpression, AtSlots, AtInstruction};
-ghost use Rattle.needs.specs.Needs.{cap, join-sign, RightSide};
+ghost use Rattle.needs.specs.Needs.{cap, both, summed, join-sign, RightSide};
 
 // a + b, counted up to 257
 pub fn capped(a: u32, b: u32) -> u32
@@ -18,29 +19,27 @@ pub fn capped(a: u32, b: u32) -> u32
     a + b
 }
 
-// the frame literals of expression x
-pub fn frames_of(p: &[u32], x: u32) -> u32
-    requires { ⌜ AtExpression (now p) x ⌝ }
-    ensures { λ r. ⌜ r ≡ cap (frame-literals (expression-held (now (p .entry)) x)) ⌝ }
+// f of the one number that both are
+pub fn frames(n: u32) -> u32
+    ensures { λ r. ⌜ r ≡ n % 512 ⌝ }
 {
-    let e = tables::expression_at(p, x);
-    let ExpressionEntry::Frame(d) = e else {
-        return 0;
-    };
-    capped(1, frames_in(p, tables::link(1024, x, d)))
+    n % 512
 }
 
-// the frame literals of the slots from the place z on
-pub fn frames_in(p: &[u32], z: u32) -> u32
-    requires { ⌜ AtSlots (now p) z ⌝ }
-    ensures { λ r. ⌜ r ≡ cap (frame-literals-in (slots-held (now (p .entry)) z)) ⌝ }
+// t of the one number that both are
+pub fn texts(n: u32) -> u32
+    ensures { λ r. ⌜ r ≡ n / 512 ⌝ }
 {
-    if z == 0 {
-        return 0;
-    }
-    let a = frames_of(p, z - 1);
-    let b = frames_in(p, tables::slot_after(p, z - 1));
-    capped(a, b)
+    n / 512
+}
+
+// the sum of two such numbers, f and t apart
+fn plus(a: u32, b: u32) -> u32
+    ensures { λ r. ⌜ r ≡ summed a b ⌝ }
+{
+    let f = capped(frames(a), frames(b));
+    let t = capped(texts(a), texts(b));
+    f + 512 * t
 }
 
 // 1 for an expression with `#`
@@ -56,29 +55,30 @@ pub fn join_sign(e: ExpressionEntry) -> u32
     0
 }
 
-// the `#` signs of expression x
-pub fn joins_of(p: &[u32], x: u32) -> u32
+// f and t of expression x
+pub fn made_of(p: &[u32], x: u32) -> u32
     requires { ⌜ AtExpression (now p) x ⌝ }
-    ensures { λ r. ⌜ r ≡ cap (join-signs (expression-held (now (p .entry)) x)) ⌝ }
+    ensures { λ r. ⌜ r ≡ both (frame-literals (expression-held (now (p .entry)) x)) (join-signs (expression-held (now (p .entry)) x)) ⌝ }
 {
     let e = tables::expression_at(p, x);
     let ExpressionEntry::Frame(d) = e else {
-        return join_sign(e);
+        return 512 * join_sign(e);
     };
-    joins_in(p, tables::link(1024, x, d))
+    plus(1, made_in(p, tables::link(1024, x, d)))
 }
 
-// the `#` signs of the slots from the place z on
-pub fn joins_in(p: &[u32], z: u32) -> u32
-    requires { ⌜ AtSlots (now p) z ⌝ }
-    ensures { λ r. ⌜ r ≡ cap (join-signs-in (slots-held (now (p .entry)) z)) ⌝ }
+// f and t of the slots from a place on
+pub fn made_in(p: &[u32], from: u32) -> u32
+    requires { ⌜ AtSlots (now p) from ⌝ }
+    ensures { λ r. ⌜ r ≡ both (frame-literals-in (slots-held (now (p .entry)) from)) (join-signs-in (slots-held (now (p .entry)) from)) ⌝ }
 {
-    if z == 0 {
-        return 0;
+    let mut n = 0u32;
+    let mut z = from;
+    while z != 0 {
+        n = plus(n, made_of(p, z - 1));
+        z = tables::slot_after(p, z - 1);
     }
-    let a = joins_of(p, z - 1);
-    let b = joins_in(p, tables::slot_after(p, z - 1));
-    capped(a, b)
+    n
 }
 
 // the expression of instruction i: its right side, or its first operand
@@ -97,18 +97,10 @@ pub fn right_side(p: &[u32], i: u32) -> u32
     }
 }
 
-// f
-pub fn frames_needed(p: &[u32], i: u32) -> u32
+// f and t of instruction i
+pub fn needed(p: &[u32], i: u32) -> u32
     requires { ⌜ AtInstruction (now p) i ⌝ }
-    ensures { λ r. ⌜ r ≡ cap (frame-literals (right-side (instruction-held (now (p .entry)) i))) ⌝ }
+    ensures { λ r. ⌜ r ≡ both (frame-literals (right-side (instruction-held (now (p .entry)) i))) (join-signs (right-side (instruction-held (now (p .entry)) i))) ⌝ }
 {
-    frames_of(p, right_side(p, i))
-}
-
-// t
-pub fn texts_needed(p: &[u32], i: u32) -> u32
-    requires { ⌜ AtInstruction (now p) i ⌝ }
-    ensures { λ r. ⌜ r ≡ cap (join-signs (right-side (instruction-held (now (p .entry)) i))) ⌝ }
-{
-    joins_of(p, right_side(p, i))
+    made_of(p, right_side(p, i))
 }

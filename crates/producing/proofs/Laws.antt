@@ -163,7 +163,7 @@ module _ (p l h t : List ℕ) (k : ℕ) (v w : Value) (can : CanProduce p l h t 
         let v = text-leaves h t bytes s size a le in
         record {
           produced = rw (← gave, eh, et, j .answer, text-store h t bytes s size a, text-next h t bytes s size a);
-          leaves = rw (eh, et) (record { header = v .header; stay = v .stay; sized = v .sized; text-size = v .text-size; frames = v .frames; texts = let q = v .texts in omega arith });
+          leaves = rw (eh, et) (record { header = v .header; stay = v .stay; stay-text = v .stay-text; sized = v .sized; text-size = v .text-size; frames = v .frames; texts = let q = v .texts in omega arith });
         }
 
 -- ---- operation

@@ -2,16 +2,17 @@
 use Prim.Native.Nat.{ℕ, suc, _+_, _*_, _≤_, _<_}
 use mathlib.Core.Path.{_≡_, refl, _∙_, ap, sym}
 use mathlib.Core.List.{List}
+use mathlib.Core.Bool.{true≢false}
 use native.Mathlib.Omega.{arith}
 use lib.ListN.{length}
 use lib.Seq.{sets}
 use Rattle.framed.specs.declared.Value.{Value}
 use Rattle.framed.specs.declared.Text.{Text}
 use Rattle.framed.specs.Tree.{Code}
-use Rattle.heap.specs.Words.{take-text}
+use Rattle.heap.specs.Words.{text-used, take-text}
 use Rattle.heap.specs.Held.{texts-held, frames-in-use, texts-in-use}
-use Rattle.heap.specs.Closed.{Sized, FrameInUse}
-use Rattle.heap.proofs.Held.{frame-counted, take-text-frames, take-text-sized, take-text-count-one}
+use Rattle.heap.specs.Closed.{Sized, FrameInUse, TextInUse}
+use Rattle.heap.proofs.Held.{frame-counted, text-counted, take-text-frames, take-text-others, take-text-sized, take-text-count-one}
 use Rattle.allocation.specs.Allocation.{next-text}
 use Rattle.allocation.proofs.Laws.{next-text-below, next-text-free}
 use Rattle.splice.specs.Splice.{splice}
@@ -30,6 +31,7 @@ pub leaves-none : {h t : List ℕ} (f n : ℕ) → Sized h → length t ≡ 1638
 leaves-none f n s e = record {
   header = record { agree = λ k lt. refl };
   stay = λ g u. u;
+  stay-text = λ k u. u;
   sized = s;
   text-size = e;
   frames = omega arith;
@@ -40,6 +42,7 @@ pub leaves-both : {h t h₁ t₁ h₂ t₂ : List ℕ} {f n f₁ n₁ : ℕ} →
 leaves-both a b = record {
   header = record { agree = λ k lt. b .header .agree k lt ∙ a .header .agree k lt };
   stay = λ g u. b .stay g (a .stay g u);
+  stay-text = λ k u. b .stay-text k (a .stay-text k u);
   sized = b .sized;
   text-size = b .text-size;
   frames = let p = a .frames in let q = b .frames in omega arith;
@@ -48,6 +51,9 @@ leaves-both a b = record {
 
 pub in-use-stay : {h h′ : List ℕ} → frames-in-use h′ ≡ frames-in-use h → (g : ℕ) → FrameInUse h g → FrameInUse h′ g
 in-use-stay {h} {h′} e g u = frame-counted h′ g .0 (rw e (frame-counted h g .1 u))
+
+pub texts-stay : {h h′ : List ℕ} → texts-in-use h′ ≡ texts-in-use h → (k : ℕ) → TextInUse h k → TextInUse h′ k
+texts-stay {h} {h′} e k u = text-counted h′ k .0 (rw e (text-counted h k .1 u))
 
 -- a new made text with these bytes
 module _ (h t bs : List ℕ) (s : Sized h) (size : length t ≡ 16384) (short : length bs ≤ 64) where
@@ -72,8 +78,18 @@ module _ (h t bs : List ℕ) (s : Sized h) (size : length t ≡ 16384) (short : 
       record {
         header = header-kept (keeps-text h new (length bs));
         stay = in-use-stay (same .in-use);
+        stay-text = stays below few;
         sized = take-text-sized h s new below (length bs) short;
         text-size = splice-length t (64 * new) bs ∙ size;
         frames = let e = ap length (same .in-use) in omega arith;
         texts = let e = take-text-count-one h s new below (length bs) short (next-text-free h few) in omega arith;
+      }
+    where
+      stays : new < 256 → length (texts-in-use h) < 256 → (k : ℕ) → TextInUse h k → TextInUse (take-text h new (length bs)) k
+      stays below few k u = record {
+        small = u .small;
+        used =
+            take-text-others h s new below (length bs) short k
+            (λ e. absurd (true≢false (sym (u .used) ∙ ap (text-used h) e ∙ next-text-free h few)))
+            ∙ u .used;
       }

@@ -15,7 +15,7 @@ use Rattle.tables.specs.Entries.{expression-at}
 use Rattle.program_form.specs.WellFormed.{WellFormed}
 use Rattle.heap.specs.Words.{take-text}
 use Rattle.heap.specs.Held.{texts-held, frames-in-use, texts-in-use}
-use Rattle.heap.specs.Closed.{Sized, FrameInUse}
+use Rattle.heap.specs.Closed.{Sized, FrameInUse, TextInUse}
 use Rattle.allocation.specs.Allocation.{next-text}
 use Rattle.texts.specs.Literals.{literals-held}
 use Rattle.texts.specs.Texts.{Readable}
@@ -49,6 +49,7 @@ pub record Writable (p l h t : List ℕ) : Type 0 where
 pub record Leaves (h t : List ℕ) (f n : ℕ) (h′ t′ : List ℕ) : Type 0 where
   pub header : HeaderKept h h′
   pub stay : (g : ℕ) → FrameInUse h g → FrameInUse h′ g
+  pub stay-text : (k : ℕ) → TextInUse h k → TextInUse h′ k
   pub sized : Sized h′
   pub text-size : length t′ ≡ 16384
   pub frames : length (frames-in-use h′) ≤ length (frames-in-use h) + f

@@ -5,6 +5,7 @@ use operators::Operated;
 use paths::Fetched;
 use tables::ExpressionEntry;
 ghost use mathlib.Core.Path.{_≡_};
+ghost use Rattle.allocation.specs.Known.{TextsFull};
 ghost use Rattle.bounded.specs.Bounded.{value-given};
 ghost use Rattle.operands.specs.Operands.{operand-value};
 ghost use Rattle.producing.specs.Producing.{read-value, CanJoin, Joins, CanProduce, Produces, Operates};
@@ -32,12 +33,21 @@ pub fn read(p: &[u32], h: &[u32], x: u32) -> Value
     Value::Int(1)
 }
 
-// A new made text with the bytes of the two values.
-pub fn join(p: &[u32], l: &[u8], h: &mut [u32], t: &mut [u8], v: Value, w: Value) -> Value
+// A new made text with the bytes of the two values; those below `low` are in use.
+pub fn join(
+    p: &[u32],
+    l: &[u8],
+    h: &mut [u32],
+    t: &mut [u8],
+    v: Value,
+    w: Value,
+    low: u32,
+) -> Value
     requires { ⌜ CanJoin (now p) (now l) (now h) (now t) v w ⌝ }
+    requires { ⌜ TextsFull (now h) low ⌝ }
     ensures { λ r. ⌜ Joins (now (p .entry)) (now (l .entry)) (now (h .entry)) (now (t .entry)) v w r (now (h .exit)) (now (t .exit)) ⌝ }
 {
-    let k = allocation::lowest_text(h);
+    let k = allocation::lowest_text(h, low);
     let n = shown::shown_size(p, h, v) + shown::shown_size(p, h, w);
     joining::write_join(p, l, h, t, k, v, w);
     heap::take_text(h, k, n);
@@ -53,14 +63,16 @@ pub fn produce(
     kind: u32,
     v: Value,
     w: Value,
+    low: u32,
 ) -> Value
     requires { ⌜ CanProduce (now p) (now l) (now h) (now t) kind ⌝ }
+    requires { ⌜ TextsFull (now h) low ⌝ }
     ensures { λ r. ⌜ Produces (now (p .entry)) (now (l .entry)) (now (h .entry)) (now (t .entry)) kind v w r (now (h .exit)) (now (t .exit)) ⌝ }
 {
     let o = operators::operate(p, l, h, t, kind, v, w);
     match o {
         Operated::Integer(n) => Value::Int(n),
-        Operated::Joined => join(p, l, h, t, v, w),
+        Operated::Joined => join(p, l, h, t, v, w, low),
         Operated::Ended(_) => Value::Int(0),
     }
 }
@@ -74,8 +86,10 @@ pub fn operation(
     kind: u32,
     a: u32,
     b: u32,
+    low: u32,
 ) -> Value
     requires { ⌜ CanProduce (now p) (now l) (now h) (now t) kind ⌝ }
+    requires { ⌜ TextsFull (now h) low ⌝ }
     ensures { λ r. ⌜ Operates (now (p .entry)) (now (l .entry)) (now (h .entry)) (now (t .entry)) kind a b r (now (h .exit)) (now (t .exit)) ⌝ }
 {
     let Fetched::Found(v) = operands::operand(p, h, a) else {
@@ -84,5 +98,5 @@ pub fn operation(
     let Fetched::Found(w) = operands::operand(p, h, b) else {
         return Value::Int(0);
     };
-    produce(p, l, h, t, kind, v, w)
+    produce(p, l, h, t, kind, v, w, low)
 }

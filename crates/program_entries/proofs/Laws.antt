@@ -23,7 +23,7 @@ ended : (p : List ℕ) (z i j : ℕ) → slot-walk p z i ≡ 0 → i ≤ j → s
 ended p z i j e le = let q : j ≡ i + (j - i) = omega arith in ap (slot-walk p z) q ∙ walk-past p z i (j - i) e
 
 module _ (p : List ℕ) (z : ℕ) (t : ℕ → Bool) (i y : ℕ) (ok : Bool) (u : Along p z t i y ok) (none : y ≡ 0) where
-  along-ended : ((j : ℕ) → slot-walk p z j ≡ 0 → t j ≡ true) → ok ≡ all-below t 16
+  pub along-ended : ((j : ℕ) → slot-walk p z j ≡ 0 → t j ≡ true) → ok ≡ all-below t 16
   along-ended f = upto-rest t 16 i ok (record { inside = u .inside; so-far = u .so-far }) (λ j le. f j (ended p z i j (sym (u .here) ∙ none) le))
 
   along-last : slot-walk p z 16 ≡ 0

@@ -1,16 +1,17 @@
 -- One law for each way through the functions that mark. Assumes nothing.
-use mathlib.Core.Path.{_≡_, refl, ap, _∙_}
+use mathlib.Core.Path.{_≡_, refl, sym, ap, _∙_}
 use mathlib.Core.List.{List, [], _∷_}
-use Prim.Native.Nat.{ℕ, _+_, _≤_, _<_}
+use Prim.Native.Nat.{ℕ, zero, suc, _+_, _-_, _≤_, _<_}
 use native.Mathlib.Omega.{arith}
 use native.Mathlib.Numerals.{add-one}
 use lib.ListN.{length}
+use lib.Seq.{set-set}
 use borrow.Author.Tests.{eq-eqb, ne-eqb}
 use types.Run.{OneOf, miss}
 use denote.Enum.Declared.{tagOf}
 use Rattle.tables.proofs.ExpressionEntry.{the-type}
 use Rattle.words.specs.Words.{word, set-word}
-use Rattle.tables.proofs.Walks.{walk-next}
+use Rattle.tables.proofs.Walks.{walk-next, walk-past}
 use Rattle.words.proofs.Laws.{set-size}
 use Rattle.tables.specs.declared.ExpressionEntry.{ExpressionEntry}
 use Rattle.tables.specs.declared.InstructionEntry.{InstructionEntry}
@@ -61,6 +62,22 @@ marked-here p z w j y a m m′ h e g = rw (← h, ← e) g
 set-kept : (m m′ : List ℕ) (a w : ℕ) → m′ ≡ set-word m a w → length m′ ≡ length m
 set-kept m m′ a w e = ap length e ∙ set-size m a w
 
+-- where the slots have ended, cell 0 is marked over and over
+set-twice : (m : List ℕ) (k w : ℕ) → set-word (set-word m k w) k w ≡ set-word m k w
+unfolding set-word
+set-twice m k w = set-set m k w w
+
+marked-on : (p : List ℕ) (z w j : ℕ) (m₀ m : List ℕ) (d : ℕ) → m ≡ each-below (mark-slot p z w) j m₀ → slot-walk p z j ≡ 0 → (m′ : List ℕ) → m′ ≡ set-word m 0 w
+    → m′ ≡ each-below (mark-slot p z w) (suc (j + d)) m₀
+unfolding each-below mark-slot
+marked-on p z w j m₀ m zero e none m′ g = let q : j + 0 ≡ j = omega arith in rw (q, none, ← e) g
+marked-on p z w j m₀ m (suc d) e none m′ g =
+    let q : j + suc d ≡ suc (j + d) = omega arith in
+    rw (q, ← marked-on p z w j m₀ m d e none m′ g, on) (g ∙ sym (set-twice m 0 w) ∙ ap (λ (n : List ℕ). set-word n 0 w) (sym g))
+  where
+    on : slot-walk p z (suc (j + d)) ≡ 0
+    on = ap (slot-walk p z) (omega arith) ∙ walk-past p z j (suc d) none
+
 module _ (p : List ℕ) (z w : ℕ) (m₀ : List ℕ) (j y : ℕ) (m : List ℕ) (u : MarkAlong p z w m₀ j y m) where
   pub marking-again : (a y′ : ℕ) (m′ : List ℕ) → j < 16 → a ≡ y → m′ ≡ set-word m a w → y′ ≡ follow-slot p y → MarkAlong p z w m₀ (j + 1) y′ m′
   marking-again a y′ m′ lt e g f =
@@ -72,6 +89,18 @@ module _ (p : List ℕ) (z w : ℕ) (m₀ : List ℕ) (j y : ℕ) (m : List ℕ)
   pub marking-done : 16 ≤ j → m ≡ mark-slots p z w m₀
   unfolding mark-slots
   marking-done le = done-end (mark-slot p z w) 16 j m₀ m (u .done) 16 le refl
+
+  pub marking-ended : (a : ℕ) (m′ : List ℕ) → j < 16 → a ≡ y → m′ ≡ set-word m a w → y ≡ 0 → m′ ≡ mark-slots p z w m₀
+  unfolding mark-slots
+  marking-ended a m′ lt e g none =
+      marked-on p z w j m₀ m (15 - j) (u .done .so-far) (sym (u .here) ∙ none) m′ (g ∙ ap (λ (k : ℕ). set-word m k w) (e ∙ none))
+      ∙ ap (λ (k : ℕ). each-below (mark-slot p z w) k m₀) (whole lt)
+    where
+      whole : j < 16 → suc (j + (15 - j)) ≡ 16
+      whole l = omega arith
+
+  pub marking-ended-size : (a : ℕ) (m′ : List ℕ) → m′ ≡ set-word m a w → length m′ ≡ length m₀
+  marking-ended-size a m′ g = set-kept m m′ a w g ∙ u .done .size
 
   pub marking-size : length m ≡ length m₀
   marking-size = u .done .size

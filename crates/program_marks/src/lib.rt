@@ -27,6 +27,9 @@ fn mark_slots(p: &[u32], z: u32, w: u32, m: &mut [u32])
     let mut j = 0u32;
     while j < 16 {
         set_word(m, wide(y), w);
+        if y == 0 {
+            return;
+        }
         y = follow_slot(p, y);
         j += 1;
     }

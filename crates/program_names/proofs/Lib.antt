@@ -1,2 +1,3 @@
 pub mod Decides
+pub mod Keys
 pub mod Laws

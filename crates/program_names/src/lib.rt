@@ -13,9 +13,13 @@ use tables::path_name;
 use tables::path_names;
 use tables::start;
 use tables::text_limit;
+use words::set_word;
+use words::wide;
+use words::word;
 ghost use mathlib.Core.Path.{_≡_};
 ghost use Rattle.framed.specs.Bytes.{string-byte};
-ghost use Rattle.program_names.specs.Tests.{limits-ok, name-byte-ok, name-bytes-ok, same-bytes, names-differ, new-name, name-ok};
+ghost use Rattle.program_names.specs.Keys.{name-key, other-keys, is-new, name-ok-by};
+ghost use Rattle.program_names.specs.Tests.{limits-ok, name-byte-ok, name-bytes-ok, same-bytes, names-differ, new-name};
 ghost use Rattle.program_names.specs.Tests.{names-ok, literal-byte-ok, literal-bytes-ok, literal-ok, literals-ok, path-name-ok, path-names-ok, texts-ok};
 
 pub fn limits_ok(p: &[u32]) -> bool
@@ -95,20 +99,69 @@ fn new_name(p: &[u32], k: u32) -> bool
     ok
 }
 
-fn name_ok(p: &[u32], k: u32) -> bool
-    ensures { λ r. ⌜ r ≡ name-ok (now (p .entry)) k ⌝ }
+// A number of name k that depends only on its length and its bytes: names of different keys are different.
+fn name_key(p: &[u32], k: u32) -> u32
+    ensures { λ r. ⌜ r ≡ name-key (now (p .entry)) k ⌝ }
 {
-    (1 <= name_length(p, k)) & (name_length(p, k) <= 16) & name_bytes_ok(p, k) & new_name(p, k)
+    let n = name_length(p, k);
+    let mut key = n % 65536;
+    let mut i = 0u32;
+    while i < 16 {
+        if n <= i {
+            return key;
+        }
+        key = key % 16777216 * 37 + name_byte(p, k, i) % 65536;
+        i += 1;
+    }
+    key
+}
+
+// none of the first n keys is x
+fn other_keys(keys: &[u32], n: usize, x: u32) -> bool
+    ensures { λ r. ⌜ r ≡ other-keys (now (keys .entry)) n x ⌝ }
+{
+    let mut ok = true;
+    let mut j = 0usize;
+    while j < n {
+        ok = ok & (word(keys, j) != x);
+        j += 1;
+    }
+    ok
+}
+
+// No name before k is name k, which has the key x: the keys of the names before tell it, or else the names are compared.
+fn is_new(p: &[u32], keys: &[u32], k: u32, x: u32) -> bool
+    ensures { λ r. ⌜ r ≡ is-new (now (p .entry)) (now (keys .entry)) k x ⌝ }
+{
+    if 128 < k {
+        return new_name(p, k);
+    }
+    if other_keys(keys, wide(k), x) {
+        return true;
+    }
+    new_name(p, k)
+}
+
+fn name_ok(p: &[u32], keys: &[u32], k: u32, x: u32) -> bool
+    ensures { λ r. ⌜ r ≡ name-ok-by (now (p .entry)) (now (keys .entry)) k x ⌝ }
+{
+    (1 <= name_length(p, k))
+        & (name_length(p, k) <= 16)
+        & name_bytes_ok(p, k)
+        & is_new(p, keys, k, x)
 }
 
 fn names_ok(p: &[u32]) -> bool
     ensures { λ r. ⌜ r ≡ names-ok (now (p .entry)) ⌝ }
 {
     let n = names(p);
+    let mut keys = [0u32; 128];
     let mut ok = true;
     let mut k = 0;
     while k < n {
-        ok = ok & name_ok(p, k);
+        let x = name_key(p, k);
+        ok = ok & name_ok(p, &keys, k, x);
+        set_word(&mut keys, wide(k), x);
         k += 1;
     }
     ok

@@ -6,6 +6,7 @@ use Prim.Native.Nat.{ℕ, _+_, _≤_, _<_}
 use lib.ListN.{replicate}
 use Rattle.words.proofs.Laws.{Upto, upto-again}
 use Rattle.tables.proofs.Walks.{Along, along-more, along-all}
+use Rattle.program_entries.proofs.Laws.{along-ended}
 use Rattle.tables.specs.declared.ExpressionEntry.{ExpressionEntry}
 use Rattle.tables.specs.declared.InstructionEntry.{InstructionEntry}
 use Rattle.tables.specs.Fields.{link, follow-slot}
@@ -24,6 +25,11 @@ module _ (p o q : List ℕ) (w z j y : ℕ) (ok : Bool) (u : Along p z (slot-mar
   pub along-done : 16 ≤ j → ok ≡ slots-marked p o q w z
   unfolding slots-marked
   along-done le = along-all p z (slot-marked-at p o q w z) j y ok u le
+
+-- where the slots have ended, the test of what is not there holds
+pub along-none : (p o q : List ℕ) (w z j y : ℕ) (ok : Bool) → Along p z (slot-marked-at p o q w z) j y ok → y ≡ 0 → ok ≡ slots-marked p o q w z
+unfolding slots-marked slot-marked-at slot-marked
+along-none p o q w z j y ok u e = along-ended p z (slot-marked-at p o q w z) j y ok u e (λ k s. rw s)
 
 -- ---- An expression by its form
 

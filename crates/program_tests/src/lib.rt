@@ -46,6 +46,9 @@ fn slots_marked(p: &[u32], o: &[u32], q: &[u32], w: u32, z: u32) -> bool
     let mut y = z;
     let mut j = 0u32;
     while j < 16 {
+        if y == 0 {
+            return ok;
+        }
         ok = ok & slot_marked(o, q, w, y);
         y = follow_slot(p, y);
         j += 1;

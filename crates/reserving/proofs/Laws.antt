@@ -1,5 +1,5 @@
 -- What each way through add, seek and reserve gives. Assumes nothing.
-use Prim.Native.Nat.{ℕ, _+_, _≤_, _<_}
+use Prim.Native.Nat.{ℕ, zero, suc, _+_, _-_, _≤_, _<_}
 use mathlib.Core.Path.{_≡_, refl, _∙_, ap, sym}
 use mathlib.Core.List.{List}
 use mathlib.Core.Bool.{Bool, true, false}
@@ -11,14 +11,18 @@ use borrow.Author.Tests.{lt-ltb, le-ltb, eq-eqb, ne-eqb}
 use Rattle.words.specs.Words.{pick}
 use Rattle.framed.specs.declared.Totals.{Totals}
 use Rattle.tables.specs.Fields.{frame-limit, text-limit}
+use Rattle.heap.specs.Words.{frame-used}
+use Rattle.heap.specs.Lists.{passing}
 use Rattle.heap.specs.Held.{frames-in-use, texts-in-use}
+use Rattle.heap.proofs.Lists.{passing-yes, passing-no}
+use Rattle.heap.proofs.Loops.{Tally, frames-counted}
 use Rattle.allocation.specs.declared.Known.{Known}
-use Rattle.allocation.specs.Allocation.{next-frame}
-use Rattle.allocation.specs.Known.{FullBelow, Knows}
-use Rattle.allocation.proofs.Laws.{none-below, next-full}
+use Rattle.allocation.specs.Allocation.{next-frame, next-text}
+use Rattle.allocation.specs.Known.{FullBelow, TextsFull, Full, Knows}
+use Rattle.allocation.proofs.Laws.{none-full, next-full, next-text-full}
 use Rattle.collector.specs.Collect.{Collection, collection, in-use-totals, collect-heap}
 use Rattle.reserving.specs.declared.Reserved.{Reserved}
-use Rattle.reserving.specs.Reserving.{room-end-held, reserved-words, Reserves, added, Sought, Reckons}
+use Rattle.reserving.specs.Reserving.{room-end-held, reserved-words, Reserves, added, Sought, CountedTo, Reckons}
 
 -- ---- add
 
@@ -32,21 +36,54 @@ module _ (p : List ℕ) (f n : ℕ) (k : Known) (F₀ F a b : ℕ) (e₀ : F₀ 
     unfolding added
     add-no-texts lt = rw (← e₀, ← eF, ← ea, ← eb, le-ltb F (a + b) le, ← u₀, ← eT, ← ec, ← ed, lt-ltb T (c + d) lt)
 
-    pub add-both : c + d ≤ T → _≡_ {A = Reserved} (record { end = 0; known = record { frames = k .frames + f; texts = k .texts + n; low = k .low } }) (added p f n k)
+    pub add-both : c + d ≤ T → _≡_ {A = Reserved} (record { end = 0; known = record { frames = k .frames + f; texts = k .texts + n; low = k .low; least = k .least } }) (added p f n k)
     unfolding added
     add-both lt = rw (← e₀, ← eF, ← ea, ← eb, le-ltb F (a + b) le, ← u₀, ← eT, ← ec, ← ed, le-ltb T (c + d) lt)
 
 -- ---- seek
 
-module _ (h : List ℕ) (r : Reserved) where
-  pub seek-lowest : (x : ℕ) → x ≡ next-frame h → Sought h r (record { end = r .end; known = record { frames = r .known .frames; texts = r .known .texts; low = x } })
-  seek-lowest x e = record { end = refl; frames = refl; texts = refl; full = rw e (next-full h) }
+module _ (h : List ℕ) where
+  pub lowest-frame-full : (x : ℕ) → x ≡ next-frame h → FullBelow h x
+  lowest-frame-full x e = rw e (next-full h)
+
+  pub lowest-text-full : (x : ℕ) → x ≡ next-text h → TextsFull h x
+  lowest-text-full x e = rw e (next-text-full h)
+
+  pub seek-both : (r : Reserved) (x y : ℕ) → FullBelow h x → TextsFull h y
+      → Sought h r (record { end = r .end; known = record { frames = r .known .frames; texts = r .known .texts; low = x; least = y } })
+  seek-both r x y a b = record { end = refl; frames = refl; texts = refl; full = record { frames = a; texts = b } }
+
+-- ---- count_frames
+
+-- what passes below i passes below more
+counts-grow : (t : ℕ → Bool) (i d : ℕ) → length (passing t i) ≤ length (passing t (d + i))
+counts-grow t i zero = let e : 0 + i ≡ i = omega arith in rw e (omega arith)
+counts-grow t i (suc d) = let e : suc d + i ≡ suc (d + i) = omega arith in rw e (go (t (d + i)) refl (counts-grow t i d))
+  where
+    go : (b : Bool) → t (d + i) ≡ b → length (passing t i) ≤ length (passing t (d + i)) → length (passing t i) ≤ length (passing t (suc (d + i)))
+    go true e le = let q = passing-yes t (d + i) e in omega arith
+    go false e le = let q = passing-no t (d + i) e in omega arith
+
+module _ (h : List ℕ) (limit f i n : ℕ) (a : Tally (frame-used h) i n) where
+  pub count-all : 256 ≤ i → CountedTo h limit f n
+  count-all le = let e = frames-counted h i n a le in record { some = omega arith; all = λ q. e }
+
+  pub count-stop : f ≤ limit → (most : ℕ) → most ≡ limit - f → most < n → CountedTo h limit f n
+  unfolding frames-in-use
+  count-stop le most e lt =
+      let s = a .inside in
+      let q : (256 - i) + i ≡ 256 = omega arith in
+      let g = rw q at (counts-grow (frame-used h) i (256 - i)) in
+      record { some = omega (arith, a .so-far); all = λ z. absurd (omega arith) }
+
+pub count-none : (h : List ℕ) (limit f : ℕ) → limit < f → CountedTo h limit f 0
+count-none h limit f lt = record { some = omega arith; all = λ z. absurd (omega arith) }
 
 -- ---- reserve
 
 module _ (p h : List ℕ) (f n : ℕ) (k : Known) (known : Knows h 0 0 k) where
   by-room : (P : Reserved → Type 0) → P (record { end = 36; known = k }) → P (record { end = 37; known = k }) →
-      (k .frames + f ≤ frame-limit p → k .texts + n ≤ text-limit p → P (record { end = 0; known = record { frames = k .frames + f; texts = k .texts + n; low = k .low } })) → P (added p f n k)
+      (k .frames + f ≤ frame-limit p → k .texts + n ≤ text-limit p → P (record { end = 0; known = record { frames = k .frames + f; texts = k .texts + n; low = k .low; least = k .least } })) → P (added p f n k)
   unfolding added
   by-room P x y z = go (decLt (frame-limit p) (k .frames + f)) (decLt (text-limit p) (k .texts + n))
     where
@@ -75,7 +112,7 @@ module _ (p h : List ℕ) (f n : ℕ) (k : Known) (known : Knows h 0 0 k) where
       ))
 
   module _ (a : Reserved) (ea : a ≡ added p f n k) where
-    pub reserve-full : FullBelow h (a .known .low)
+    pub reserve-full : Full h (a .known .low) (a .known .least)
     reserve-full = rw ea (reckoned .now .full)
 
     module _ (r : Reserved) (s : Sought h a r) where
@@ -94,9 +131,9 @@ module _ (p h : List ℕ) (f n : ℕ) (k : Known) (known : Knows h 0 0 k) where
           record { words = rw (eq-eqb (room-end-held p h f n) 0 q); end = s .end ∙ z ∙ sym q }
 
 -- where all are counted
-module _ (p h : List ℕ) (f n low : ℕ) (full : FullBelow h low) (x y : ℕ) (ex : x ≡ length (frames-in-use h)) (ey : y ≡ length (texts-in-use h)) where
+module _ (p h : List ℕ) (f n low least : ℕ) (full : Full h low least) (x y : ℕ) (ex : x ≡ length (frames-in-use h)) (ey : y ≡ length (texts-in-use h)) where
   abbrev counted : Known
-  counted = record { frames = x; texts = y; low = low }
+  counted = record { frames = x; texts = y; low = low; least = least }
 
   count-knows : Knows h 0 0 counted
   count-knows = record { frames = omega arith; texts = omega arith; full = full }
@@ -107,30 +144,48 @@ module _ (p h : List ℕ) (f n low : ℕ) (full : FullBelow h low) (x y : ℕ) (
     where
       go : (s t : Bool) →
           pick {A = Reserved} s (record { end = 36; known = counted })
-          (pick t (record { end = 37; known = counted }) (record { end = 0; known = record { frames = x + f; texts = y + n; low = low } })) .end
+          (pick t (record { end = 37; known = counted }) (record { end = 0; known = record { frames = x + f; texts = y + n; low = low; least = least } })) .end
           ≡ pick s 36 (pick t 37 0)
       go true t = refl
       go false true = refl
       go false false = refl
 
-module _ (p h : List ℕ) (f n : ℕ) (k : Known) (known : Knows h 0 0 k) (x y : ℕ) (ex : x ≡ length (frames-in-use h)) (ey : y ≡ length (texts-in-use h))
-    (b : Reserved) (eb : b ≡ added p f n (record { frames = x; texts = y; low = k .low })) where
-  abbrev knows-now : Knows h 0 0 (counted p h f n (k .low) (known .full) x y ex ey)
-  knows-now = count-knows p h f n (k .low) (known .full) x y ex ey
+module _ (p h : List ℕ) (f n : ℕ) (k : Known) (known : Knows h 0 0 k) (F : ℕ) (eF : F ≡ frame-limit p) (x y : ℕ) (cx : CountedTo h F f x) (ey : y ≡ length (texts-in-use h))
+    (b : Reserved) (eb : b ≡ added p f n (record { frames = x; texts = y; low = k .low; least = k .least })) where
+  -- where there seems to be room, all were counted; where frames lack, they do
+  exact : b .end ≡ 0 → x ≡ length (frames-in-use h)
+  unfolding added
+  exact z = go (decLt (frame-limit p) (x + f))
+    where
+      go : Dec (frame-limit p < x + f) → x ≡ length (frames-in-use h)
+      go (yes lt) = absurd (let q : _≡_ {A = ℕ} 36 0 = rw (eb, lt-ltb (frame-limit p) (x + f) lt) at z in omega arith)
+      go (no ge) = cx .all (omega arith)
 
-  pub count-full : FullBelow h (b .known .low)
-  count-full = reserve-full p h f n _ knows-now b eb
+  full-then : (b .end ≡ 0 → ⊥) → room-end-held p h f n ≡ 0 → ⊥
+  unfolding room-end-held
+  full-then nz e = go (decLt (frame-limit p) (x + f))
+    where
+      go : Dec (frame-limit p < x + f) → ⊥
+      go (yes lt) = let q : _≡_ {A = ℕ} 36 0 = rw (lt-ltb (frame-limit p) (length (frames-in-use h) + f) (omega (arith, cx .some))) at e in omega arith
+      go (no ge) = nz (rw eb (count-end p h f n (k .low) (k .least) (known .full) x y (cx .all (omega arith)) ey) ∙ e)
 
-  module _ (r : Reserved) (s : Sought h b r) where
-    pub count-room : b .end ≡ 0 → Reserves p h f n (r .end) h
-    count-room z = reserve-room p h f n _ knows-now b eb r s z
+  module _ (z : b .end ≡ 0) where
+    abbrev knows-now : Knows h 0 0 (counted p h f n (k .low) (k .least) (known .full) x y (exact z) ey)
+    knows-now = count-knows p h f n (k .low) (k .least) (known .full) x y (exact z) ey
 
-    pub count-reckons : Reckons h f n r
-    count-reckons = reserve-reckons p h f n _ knows-now b eb r s
+    pub count-full : Full h (b .known .low) (b .known .least)
+    count-full = reserve-full p h f n _ knows-now b eb
+
+    module _ (r : Reserved) (s : Sought h b r) where
+      pub count-room : Reserves p h f n (r .end) h
+      count-room = reserve-room p h f n _ knows-now b eb r s z
+
+      pub count-reckons : Reckons h f n r
+      count-reckons = reserve-reckons p h f n _ knows-now b eb r s
 
   -- and after a collection
   module _ (nz : b .end ≡ 0 → ⊥) (m : Totals) (h′ : List ℕ) (ec : collect-heap h ≡ collection m h′)
-      (d : Reserved) (ed : d ≡ added p f n (record { frames = m .frames; texts = m .texts; low = 0 })) where
+      (d : Reserved) (ed : d ≡ added p f n (record { frames = m .frames; texts = m .texts; low = 0; least = 0 })) where
     words-are : collect-heap h .words ≡ h′
     words-are = ap (λ (z : Collection). z .words) ec
 
@@ -146,21 +201,18 @@ module _ (p h : List ℕ) (f n : ℕ) (k : Known) (known : Knows h 0 0 k) (x y :
     unfolding in-use-totals
     texts-are = ap (λ (z : Totals). z .texts) totals-are
 
-    abbrev knows-then : Knows h′ 0 0 (counted p h′ f n 0 (none-below h′) (m .frames) (m .texts) frames-are texts-are)
-    knows-then = count-knows p h′ f n 0 (none-below h′) (m .frames) (m .texts) frames-are texts-are
+    abbrev knows-then : Knows h′ 0 0 (counted p h′ f n 0 0 (none-full h′) (m .frames) (m .texts) frames-are texts-are)
+    knows-then = count-knows p h′ f n 0 0 (none-full h′) (m .frames) (m .texts) frames-are texts-are
 
-    pub collect-full : FullBelow h′ (d .known .low)
+    pub collect-full : Full h′ (d .known .low) (d .known .least)
     collect-full = reserve-full p h′ f n _ knows-then d ed
-
-    full-before : room-end-held p h f n ≡ 0 → ⊥
-    full-before z = nz (rw eb (count-end p h f n (k .low) (known .full) x y ex ey) ∙ z)
 
     module _ (r : Reserved) (s : Sought h′ d r) where
       pub collect-reserves : Reserves p h f n (r .end) h′
       unfolding reserved-words
       collect-reserves = record {
-        words = rw (ne-eqb (room-end-held p h f n) 0 full-before) (sym words-are);
-        end = s .end ∙ rw ed (count-end p h′ f n 0 (none-below h′) (m .frames) (m .texts) frames-are texts-are);
+        words = rw (ne-eqb (room-end-held p h f n) 0 (full-then nz)) (sym words-are);
+        end = s .end ∙ rw ed (count-end p h′ f n 0 0 (none-full h′) (m .frames) (m .texts) frames-are texts-are);
       }
 
       pub collect-reckons : Reckons h′ f n r

@@ -1,6 +1,6 @@
 -- Document 01, "The calls", room (here: reserve), over the words: the end, and the words after it. What this is of the bounded machine's state is in proofs/Meaning.
 -- Assumes nothing.
-use Prim.Native.Nat.{ℕ, _+_}
+use Prim.Native.Nat.{ℕ, _+_, _≤_}
 use mathlib.Core.Path.{_≡_}
 use mathlib.Core.List.{List}
 use lib.Dec.{eqb, ltb}
@@ -10,7 +10,7 @@ use Rattle.tables.specs.Fields.{frame-limit, text-limit}
 use Rattle.heap.specs.Held.{frames-in-use, texts-in-use}
 use Rattle.collector.specs.Collect.{collect-heap}
 use Rattle.allocation.specs.declared.Known.{Known}
-use Rattle.allocation.specs.Known.{FullBelow, Knows}
+use Rattle.allocation.specs.Known.{Full, Knows}
 use Rattle.reserving.specs.declared.Reserved.{Reserved}
 
 -- the end that f more frames and n more made texts meet: 36, 37, or 0 where they fit
@@ -34,14 +34,19 @@ unfoldable pub added : List ℕ → ℕ → ℕ → Known → Reserved
 added p f n k =
     pick (ltb (frame-limit p) (k .frames + f)) (record { end = 36; known = k })
     (pick (ltb (text-limit p) (k .texts + n)) (record { end = 37; known = k })
-    (record { end = 0; known = record { frames = k .frames + f; texts = k .texts + n; low = k .low } }))
+    (record { end = 0; known = record { frames = k .frames + f; texts = k .texts + n; low = k .low; least = k .least } }))
 
--- nothing but the number below which all frames are in use differs
+-- nothing but the numbers below which all are in use differs
 pub record Sought (h : List ℕ) (r s : Reserved) : Type 0 where
   pub end : s .end ≡ r .end
   pub frames : s .known .frames ≡ r .known .frames
   pub texts : s .known .texts ≡ r .known .texts
-  pub full : FullBelow h (s .known .low)
+  pub full : Full h (s .known .low) (s .known .least)
+
+-- how many frames are in use, all counted where f more fit below the limit
+pub record CountedTo (h : List ℕ) (limit f r : ℕ) : Type 0 where
+  pub some : r ≤ length (frames-in-use h)
+  pub all : r + f ≤ limit → r ≡ length (frames-in-use h)
 
 -- what is known after reserve; where there is room, with f and n counted in
 pub record Reckons (h : List ℕ) (f n : ℕ) (r : Reserved) : Type 0 where

@@ -3,8 +3,8 @@
 use allocation::Known;
 ghost use mathlib.Core.Path.{_≡_};
 ghost use Rattle.heap.specs.Closed.{Closed};
-ghost use Rattle.allocation.specs.Known.{FullBelow, Knows};
-ghost use Rattle.reserving.specs.Reserving.{added, Reserves, Sought, Reckons};
+ghost use Rattle.allocation.specs.Known.{FullBelow, TextsFull, Full, Knows};
+ghost use Rattle.reserving.specs.Reserving.{added, Reserves, Sought, CountedTo, Reckons};
 
 // The end, 0 where there is room, and what is known then. Where there is room the f frames and t texts are counted in.
 pub struct Reserved {
@@ -28,26 +28,71 @@ fn add(p: &[u32], f: u32, t: u32, k: Known) -> Reserved
             frames: k.frames + f,
             texts: k.texts + t,
             low: k.low,
+            least: k.least,
         },
     }
 }
 
 // Where frames are to be made, the lowest that is free is looked for once.
-fn seek(h: &[u32], f: u32, r: Reserved) -> Reserved
-    requires { ⌜ FullBelow (now h) (r .known .low) ⌝ }
-    ensures { λ s. ⌜ Sought (now (h .entry)) r s ⌝ }
+fn lowest_frame_for(h: &[u32], f: u32, low: u32) -> u32
+    requires { ⌜ FullBelow (now h) low ⌝ }
+    ensures { λ r. ⌜ FullBelow (now (h .entry)) r ⌝ }
 {
     if f == 0 {
-        return r;
+        return low;
     }
+    allocation::lowest_frame(h, low)
+}
+
+// The same of made texts.
+fn lowest_text_for(h: &[u32], t: u32, low: u32) -> u32
+    requires { ⌜ TextsFull (now h) low ⌝ }
+    ensures { λ r. ⌜ TextsFull (now (h .entry)) r ⌝ }
+{
+    if t == 0 {
+        return low;
+    }
+    allocation::lowest_text(h, low)
+}
+
+// Both.
+fn seek(h: &[u32], f: u32, t: u32, r: Reserved) -> Reserved
+    requires { ⌜ Full (now h) (r .known .low) (r .known .least) ⌝ }
+    ensures { λ s. ⌜ Sought (now (h .entry)) r s ⌝ }
+{
+    let low = lowest_frame_for(h, f, r.known.low);
+    let least = lowest_text_for(h, t, r.known.least);
     Reserved {
         end: r.end,
         known: Known {
             frames: r.known.frames,
             texts: r.known.texts,
-            low: allocation::lowest_frame(h, r.known.low),
+            low: low,
+            least: least,
         },
     }
+}
+
+// How many frames are in use. Where f more do not fit below the limit, it may stop before it has counted all.
+fn count_frames(h: &[u32], limit: u32, f: u32) -> u32
+    ensures { λ r. ⌜ CountedTo (now (h .entry)) limit f r ⌝ }
+{
+    if limit < f {
+        return 0;
+    }
+    let most = limit - f;
+    let mut n = 0u32;
+    let mut g = 0u32;
+    while g < 256 {
+        if heap::frame_used(h, g) {
+            n += 1;
+        }
+        g += 1;
+        if most < n {
+            return n;
+        }
+    }
+    n
 }
 
 // Collects only where there is no room. The end is that which stands then.
@@ -59,22 +104,24 @@ pub fn reserve(p: &[u32], h: &mut [u32], f: u32, t: u32, k: Known) -> Reserved
 {
     let a = add(p, f, t, k);
     if a.end == 0 {
-        return seek(h, f, a);
+        return seek(h, f, t, a);
     }
     let c = Known {
-        frames: heap::count_frames(h),
+        frames: count_frames(h, tables::frame_limit(p), f),
         texts: heap::count_texts(h),
         low: k.low,
+        least: k.least,
     };
     let b = add(p, f, t, c);
     if b.end == 0 {
-        return seek(h, f, b);
+        return seek(h, f, t, b);
     }
     let n = collector::collect_heap(h);
     let d = Known {
         frames: n.frames,
         texts: n.texts,
         low: 0,
+        least: 0,
     };
-    seek(h, f, add(p, f, t, d))
+    seek(h, f, t, add(p, f, t, d))
 }

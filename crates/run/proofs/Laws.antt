@@ -273,7 +273,7 @@ module _ (p l : List ℕ) (fuel : ℕ) (h₀ t₀ out₀ : List ℕ) where
               }
 
 -- what is known at first
-pub starts-knowing : (h : List ℕ) (k : Known) → k ≡ record { frames = 256; texts = 256; low = 0 } → Knows h 0 0 k
+pub starts-knowing : (h : List ℕ) (k : Known) → k ≡ record { frames = 256; texts = 256; low = 0; least = 0 } → Knows h 0 0 k
 starts-knowing h k e = rw e (always-known h)
 
 -- ---- run

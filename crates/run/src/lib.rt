@@ -64,12 +64,13 @@ fn stop_here(h: &[u32]) -> Stop
 
 // What is known of the numbers in use in any words.
 fn nothing_known() -> Known
-    ensures { λ r. ⌜ r ≡ record { frames = 256; texts = 256; low = 0 } ⌝ }
+    ensures { λ r. ⌜ r ≡ record { frames = 256; texts = 256; low = 0; least = 0 } ⌝ }
 {
     Known {
         frames: 256,
         texts: 256,
         low: 0,
+        least: 0,
     }
 }
 

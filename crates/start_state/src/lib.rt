@@ -10,7 +10,7 @@ fn make_written(p: &[u32], l: &[u8], h: &mut [u32], t: &mut [u8]) -> u32
 {
     let f = evaluation::claim(h, 0);
     let z = tables::program_slots(p);
-    evaluation::fill(p, l, h, t, f, z, 0);
+    evaluation::fill(p, l, h, t, f, z, 0, 0);
     f
 }
 

@@ -31,11 +31,19 @@ pub fn text_in_use(h: &[u32], k: u32) -> bool
 pub fn value_formed(h: &[u32], limits: Limits, tag: u32, n: u32) -> bool
     ensures { λ r. ⌜ r ≡ value-formed (now (h .entry)) limits tag n ⌝ }
 {
-    (tag == 0)
-        | ((tag == 1) & (n < limits.literals))
-        | ((tag == 2) & text_in_use(h, n))
-        | ((tag == 3) & (n < limits.codes))
-        | ((tag == 4) & frame_in_use(h, n))
+    if tag == 0 {
+        return true;
+    }
+    if tag == 4 {
+        return frame_in_use(h, n);
+    }
+    if tag == 3 {
+        return n < limits.codes;
+    }
+    if tag == 1 {
+        return n < limits.literals;
+    }
+    (tag == 2) & text_in_use(h, n)
 }
 
 pub fn roots_formed(h: &[u32], limits: Limits) -> bool

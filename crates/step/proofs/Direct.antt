@@ -13,7 +13,6 @@ use Rattle.allocation.specs.Known.{Knows}
 use Rattle.reserving.specs.declared.Reserved.{Reserved}
 use Rattle.reserving.specs.Reserving.{Reserves, Reckons}
 use Rattle.commit.specs.Words.{WordsFit}
-use Rattle.direct.specs.declared.Done.{Done}
 use Rattle.direct.specs.Direct as direct
 use Rattle.direct.specs.Direct.{CanDo, MakesNothing, end-met, IsMade, IsEnded, Does}
 use Rattle.step.specs.declared.Shown.{Shown}
@@ -49,8 +48,8 @@ module _ (p l h t : List ℕ) (i : ℕ) (can : CanStep p l h t i) where
   reckons-nothing : MakesNothing p i → (k : Known) → Knows h 0 0 k → (e : ℕ) → Reckons h (frames-for p i) (texts-for p i) (record { end = e; known = k })
   reckons-nothing n k a e = rw (n .frames, n .texts) (record { now = a; then = λ z. a })
 
-module _ (p l h t : List ℕ) (i : ℕ) (out : List ℕ) (used : ℕ) (can : CanAttempt p l h t i out used) (r : Done) (h₁ : List ℕ) (k : Does p l h t i r h₁) where
-  pub direct-made : r ≡ Done.Made → WordsFit h₁ → Attempts p l h t i out used (Outcome.Made 0) h₁ t out
+module _ (p l h t : List ℕ) (i : ℕ) (out : List ℕ) (used : ℕ) (can : CanAttempt p l h t i out used) (r : ℕ) (h₁ : List ℕ) (k : Does p l h t i r h₁) where
+  pub direct-made : r ≡ 0 → WordsFit h₁ → Attempts p l h t i out used (Outcome.Made 0) h₁ t out
   direct-made is fit = attempt-made p l h t i out used can 0 h ends refl (Shown.Written 0) out shows 0 refl h₁ t (m .commits) fit
     where
       m : IsMade p l h t i h₁
@@ -62,31 +61,31 @@ module _ (p l h t : List ℕ) (i : ℕ) (out : List ℕ) (used : ℕ) (can : Can
       shows : Shows p l h t i out used (Shown.Written 0) out
       shows = show-none p l h t i out used (attempt-shows p l h t i 0 h ends (can .step) out used (can .inside)) (instruction-at p i) refl (quiet (instruction-at p i) (m .no-show))
 
-  pub direct-ended : (e : ℕ) → r ≡ Done.Ended e → (h′ : List ℕ) → h′ ≡ set-end-mark h₁ e → WordsFit h′ → Attempts p l h t i out used (Outcome.Ended e) h′ t out
-  direct-ended e is h′ eh fit = attempt-ended p l h t i out used can e h (ends-with p l h t i (can .step) (m .nothing) e (m .end)) (m .some) h′ (rw (m .words) at eh) fit
+  pub direct-ended : (r ≡ 0 → ⊥) → (r ≡ 255 → ⊥) → (h′ : List ℕ) → h′ ≡ set-end-mark h₁ r → WordsFit h′ → Attempts p l h t i out used (Outcome.Ended r) h′ t out
+  direct-ended some looked h′ eh fit = attempt-ended p l h t i out used can r h (ends-with p l h t i (can .step) (m .nothing) r (m .end)) (m .some) h′ (rw (m .words) at eh) fit
     where
-      m : IsEnded p l h t i e h₁
-      m = k .ended e is
+      m : IsEnded p l h t i r h₁
+      m = k .ended some looked
 
   -- what is known then
   module _ (known : Known) (a : Knows h 0 0 known) where
-    pub made-knows-still : r ≡ Done.Made → Knows h₁ 0 0 known
+    pub made-knows-still : r ≡ 0 → Knows h₁ 0 0 known
     made-knows-still is =
         let m : IsMade p l h t i h₁ = k .made is in
         let ends = ends-with p l h t i (can .step) (m .nothing) 0 (m .end) in
         made-knows p l h t i (can .step) (record { end = 0; known = known }) h ends refl h₁ t (m .commits) (reckons-nothing p l h t i (can .step) (m .nothing) known a 0)
 
-    pub ended-knows-still : (e : ℕ) → r ≡ Done.Ended e → (h′ : List ℕ) → h′ ≡ set-end-mark h₁ e → Knows h′ 0 0 known
-    ended-knows-still e is h′ eh =
-        let m : IsEnded p l h t i e h₁ = k .ended e is in
-        let ends = ends-with p l h t i (can .step) (m .nothing) e (m .end) in
-        ended-knows p l h t i (can .step) (record { end = e; known = known }) h ends (reckons-nothing p l h t i (can .step) (m .nothing) known a e) e h′ (rw (m .words) at eh)
+    pub ended-knows-still : (r ≡ 0 → ⊥) → (r ≡ 255 → ⊥) → (h′ : List ℕ) → h′ ≡ set-end-mark h₁ r → Knows h′ 0 0 known
+    ended-knows-still some looked h′ eh =
+        let m : IsEnded p l h t i r h₁ = k .ended some looked in
+        let ends = ends-with p l h t i (can .step) (m .nothing) r (m .end) in
+        ended-knows p l h t i (can .step) (record { end = r; known = known }) h ends (reckons-nothing p l h t i (can .step) (m .nothing) known a r) r h′ (rw (m .words) at eh)
 
-    pub other-knows : r ≡ Done.Other → Knows h₁ 0 0 known
+    pub other-knows : r ≡ 255 → Knows h₁ 0 0 known
     other-knows is = rw (k .other is) a
 
   -- else it is as it was
-  module _ (is : r ≡ Done.Other) where
+  module _ (is : r ≡ 255) where
     pub other-can : CanAttempt p l h₁ t i out used
     other-can = rw (k .other is) can
 

@@ -12,21 +12,22 @@ use Rattle.framed.proofs.General.{none≢some}
 use Rattle.tables.specs.Fields.{frame-limit, text-limit, instruction-after}
 use Rattle.trees.specs.Held.{program-held, instruction-held, remaining}
 use Rattle.trees.proofs.Held.{one-level-held}
-use Rattle.heap.specs.Words.{frame-used, set-end-mark}
-use Rattle.heap.specs.Closed.{Sized, FrameInUse}
+use Rattle.heap.specs.Words.{frame-used, text-used, set-end-mark}
+use Rattle.heap.specs.Held.{text-held}
+use Rattle.heap.specs.Closed.{Sized, FrameInUse, TextInUse}
 use Rattle.heap.proofs.Held.{set-end-frames, set-end-texts}
 use Rattle.state_form.proofs.Facts.{well-formed-sized}
 use Rattle.wellformed.specs.WellFormed.{WellFormed}
 use Rattle.allocation.specs.declared.Known.{Known}
 use Rattle.allocation.specs.Allocation.{view-held}
-use Rattle.allocation.specs.Known.{FullBelow, Knows}
-use Rattle.allocation.proofs.Views.{shows-frame, shows-no-frame, frames-counted, texts-counted}
-use Rattle.bounded.specs.Views.{frame-at, Takes}
+use Rattle.allocation.specs.Known.{Full, Knows}
+use Rattle.allocation.proofs.Views.{shows-frame, shows-no-frame, shows-text, shows-no-text, frames-counted, texts-counted}
+use Rattle.bounded.specs.Views.{frame-at, text-at, Takes}
 use Rattle.bounded.proofs.Theorems.{step-takes}
 use Rattle.word_store.specs.Store.{word-store}
 use Rattle.word_store.specs.State.{state-held}
 use Rattle.word_store.proofs.Updates.{held-read}
-use Rattle.producing.proofs.Leaves.{in-use-stay}
+use Rattle.producing.proofs.Leaves.{in-use-stay, texts-stay}
 use Rattle.running.proofs.Laws.{bounded-form}
 use Rattle.reserving.specs.declared.Reserved.{Reserved}
 use Rattle.reserving.specs.Reserving.{Reckons}
@@ -45,14 +46,17 @@ module _ (h : List ℕ) (k : Known) (a : Knows h 0 0 k) where
       record {
         frames = rw f (a .frames);
         texts = rw t (a .texts);
-        full = record { in-use = λ g lt. in-use-stay f g (a .full .in-use g lt) };
+        full = record {
+          frames = record { in-use = λ g lt. in-use-stay f g (a .full .frames .in-use g lt) };
+          texts = record { in-use = λ n lt. texts-stay t n (a .full .texts .in-use n lt) };
+        };
       }
 
 module _ (h : List ℕ) (f n : ℕ) (s : Reserved) (q : Reckons h f n s) where
   pub space-knows : Knows h 0 0 (s .known)
   space-knows = q .now
 
-  pub commits-full : FullBelow h (s .known .low)
+  pub commits-full : Full h (s .known .low) (s .known .least)
   commits-full = q .now .full
 
 -- ---- What the view shows
@@ -65,11 +69,21 @@ module _ (h t h′ t′ : List ℕ) (f n : ℕ) (x : Takes (view-held h t) (view
       go true e y = e
       go false e y = absurd (none≢some (sym (shows-no-frame h′ t′ g e) ∙ y .1))
 
+  text-used-still : (k : ℕ) → TextInUse h k → TextInUse h′ k
+  text-used-still k u = record { small = u .small; used = go (text-used h′ k) refl (x .stays-text k _ (shows-text h t k (u .small) (u .used))) }
+    where
+      go : (b : Bool) → text-used h′ k ≡ b → text-at (view-held h′ t′) k ≡ some (text-held h t k) → text-used h′ k ≡ true
+      go true e y = e
+      go false e y = absurd (none≢some (sym (shows-no-text h′ t′ k e) ∙ y))
+
   taken-knows : (k : Known) → Knows h f n k → Knows h′ 0 0 k
   taken-knows k a = record {
     frames = omega (arith, frames-counted h t, frames-counted h′ t′, x .frames, a .frames);
     texts = omega (arith, texts-counted h t, texts-counted h′ t′, x .texts, a .texts);
-    full = record { in-use = λ g lt. used-still g (a .full .in-use g lt) };
+    full = record {
+      frames = record { in-use = λ g lt. used-still g (a .full .frames .in-use g lt) };
+      texts = record { in-use = λ m lt. text-used-still m (a .full .texts .in-use m lt) };
+    };
   }
 
 -- ---- A step that is made

@@ -1,5 +1,5 @@
 -- Reserve for an instruction: f and t counted up to 257 say the same, and what makes nothing has room. Assumes nothing.
-use Prim.Native.Nat.{ℕ, _+_, _≤_, _<_}
+use Prim.Native.Nat.{ℕ, _+_, _/_, _%_, _≤_, _<_}
 use mathlib.Core.Path.{_≡_, _∙_, sym}
 use mathlib.Core.List.{List}
 use native.Mathlib.Omega.{arith}
@@ -8,22 +8,14 @@ use lib.ListN.{length}
 use borrow.Author.Tests.{le-ltb}
 use Rattle.tables.specs.Fields.{frame-limit, text-limit}
 use Rattle.heap.specs.Held.{frames-in-use, texts-in-use}
-use Rattle.needs.specs.Needs.{cap}
-use Rattle.needs.proofs.Cap.{cap-small, cap-large, cap-compares}
+use Rattle.needs.specs.Needs.{cap, both}
+use Rattle.needs.proofs.Cap.{cap-small, cap-large, cap-compares, both-frames, both-texts, both-none}
 use Rattle.allocation.specs.declared.Known.{Known}
 use Rattle.allocation.specs.Known.{Knows}
 use Rattle.reserving.specs.declared.Reserved.{Reserved}
 use Rattle.reserving.specs.Reserving.{room-end-held, reserved-words, Reserves, Reckons}
 use Rattle.commit.proofs.Ready.{reserved-room}
 use Rattle.step.specs.Step.{frames-for, texts-for, CanReserve}
-
-cap-zero : (n : ℕ) → cap n ≡ 0 → n ≡ 0
-unfolding cap
-cap-zero n e = go (decLt n 257)
-  where
-    go : Dec (n < 257) → n ≡ 0
-    go (yes lt) = sym (cap-small n lt) ∙ e
-    go (no ge) = absurd (let z : _≡_ {A = ℕ} 257 0 = rw (le-ltb n 257 (omega arith)) at e in omega arith)
 
 -- where there is room nothing was cut off
 cap-exact : (n m : ℕ) → m ≡ cap n → m ≤ 256 → m ≡ n
@@ -52,8 +44,8 @@ module _ (p h : List ℕ) (few : length (frames-in-use h) ≤ frame-limit p) (fe
   nothing-reserved = record { words = rw no-need; end = sym no-need }
 
 module _ (p h : List ℕ) (i : ℕ) (can : CanReserve p h i) (f n : ℕ) (ef : f ≡ cap (frames-for p i)) (en : n ≡ cap (texts-for p i)) where
-  pub reserve-counted : (r : ℕ) (h′ : List ℕ) → Reserves p h f n r h′ → Reserves p h (frames-for p i) (texts-for p i) r h′
-  reserve-counted r h′ k =
+  counted : (r : ℕ) (h′ : List ℕ) → Reserves p h f n r h′ → Reserves p h (frames-for p i) (texts-for p i) r h′
+  counted r h′ k =
       let F = can .at .program .entries .limits .F-most in
       let T = can .at .program .entries .limits .T-most in
       record {
@@ -61,24 +53,29 @@ module _ (p h : List ℕ) (i : ℕ) (can : CanReserve p h i) (f n : ℕ) (ef : f
         end = rw (ef, en) at (k .end) ∙ capped-end p (frames-for p i) (texts-for p i) F T h′;
       }
 
-  pub reserve-nothing : (m : ℕ) → m ≡ cap (f + n) → m ≡ 0 → Reserves p h (frames-for p i) (texts-for p i) 0 h
-  reserve-nothing m em z =
-      let s = cap-zero (f + n) (sym em ∙ z) in
-      let a : f ≡ 0 = omega arith in
-      let b : n ≡ 0 = omega arith in
-      rw (cap-zero (frames-for p i) (sym ef ∙ a), cap-zero (texts-for p i) (sym en ∙ b)) (nothing-reserved p h (can .frames-few) (can .texts-few))
-
-  pub reckons-counted : (r : Reserved) (h′ : List ℕ) → Reserves p h f n (r .end) h′ → Reckons h′ f n r → Reckons h′ (frames-for p i) (texts-for p i) r
-  reckons-counted r h′ k q = record { now = q .now; then = λ z. rest z (q .then z) }
+  counts : (r : Reserved) (h′ : List ℕ) → Reserves p h f n (r .end) h′ → Reckons h′ f n r → Reckons h′ (frames-for p i) (texts-for p i) r
+  counts r h′ k q = record { now = q .now; then = λ z. rest z (q .then z) }
     where
       rest : r .end ≡ 0 → Knows h′ f n (r .known) → Knows h′ (frames-for p i) (texts-for p i) (r .known)
       rest z a =
           let room = reserved-room p (can .at .literal-bytes) h f n h′ (can .at .program) (rw z at k) in
           rw (← cap-exact (frames-for p i) f ef (omega (arith, room .frames)), ← cap-exact (texts-for p i) n en (omega (arith, room .texts))) a
 
-  pub reckons-nothing : (m : ℕ) → m ≡ cap (f + n) → m ≡ 0 → (k : Known) → Knows h 0 0 k → Reckons h (frames-for p i) (texts-for p i) (record { end = 0; known = k })
-  reckons-nothing m em z k a =
-      let s = cap-zero (f + n) (sym em ∙ z) in
-      let x : f ≡ 0 = omega arith in
-      let y : n ≡ 0 = omega arith in
-      rw (cap-zero (frames-for p i) (sym ef ∙ x), cap-zero (texts-for p i) (sym en ∙ y)) (record { now = a; then = λ e. a })
+-- f and t as the one number m that was counted
+module _ (p h : List ℕ) (i : ℕ) (can : CanReserve p h i) (m : ℕ) (em : m ≡ both (frames-for p i) (texts-for p i)) where
+  module _ (f n : ℕ) (ef : f ≡ m % 512) (en : n ≡ m / 512) where
+    pub reserve-counted : (r : ℕ) (h′ : List ℕ) → Reserves p h f n r h′ → Reserves p h (frames-for p i) (texts-for p i) r h′
+    reserve-counted = counted p h i can f n (both-frames (frames-for p i) (texts-for p i) m em f ef) (both-texts (frames-for p i) (texts-for p i) m em n en)
+
+    pub reckons-counted : (r : Reserved) (h′ : List ℕ) → Reserves p h f n (r .end) h′ → Reckons h′ f n r → Reckons h′ (frames-for p i) (texts-for p i) r
+    reckons-counted = counts p h i can f n (both-frames (frames-for p i) (texts-for p i) m em f ef) (both-texts (frames-for p i) (texts-for p i) m em n en)
+
+  module _ (z : m ≡ 0) where
+    nothing : (frames-for p i ≡ 0) × (texts-for p i ≡ 0)
+    nothing = both-none (frames-for p i) (texts-for p i) (sym z ∙ em)
+
+    pub reserve-nothing : Reserves p h (frames-for p i) (texts-for p i) 0 h
+    reserve-nothing = rw (nothing .0, nothing .1) (nothing-reserved p h (can .frames-few) (can .texts-few))
+
+    pub reckons-nothing : (k : Known) → Knows h 0 0 k → Reckons h (frames-for p i) (texts-for p i) (record { end = 0; known = k })
+    reckons-nothing k a = rw (nothing .0, nothing .1) (record { now = a; then = λ e. a })

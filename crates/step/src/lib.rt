@@ -1,6 +1,5 @@
 // One step of the machine over the words: reserve, check, the line of a show, commit. The parts are the crates below; here they follow one another.
 use allocation::Known;
-use direct::Done;
 use reserving::Reserved;
 use tables::InstructionEntry;
 ghost use Rattle.step.specs.Step.{CanReserve, CanStep, StepEnds, CanShow, Shows, CanAttempt, Attempts};
@@ -34,12 +33,11 @@ pub fn reserve_for(p: &[u32], h: &mut [u32], i: u32, k: Known) -> Reserved
     ensures exact { λ r. ⌜ Reserves (now (p .entry)) (now (h .entry)) (frames-for (now (p .entry)) i) (texts-for (now (p .entry)) i) (r .end) (now (h .exit)) ⌝ }
     ensures knows { λ r. ⌜ Reckons (now (h .exit)) (frames-for (now (p .entry)) i) (texts-for (now (p .entry)) i) r ⌝ }
 {
-    let f = needs::frames_needed(p, i);
-    let t = needs::texts_needed(p, i);
-    if needs::capped(f, t) == 0 {
+    let n = needs::needed(p, i);
+    if n == 0 {
         return Reserved { end: 0, known: k };
     }
-    reserving::reserve(p, h, f, t, k)
+    reserving::reserve(p, h, needs::frames(n), needs::texts(n), k)
 }
 
 // The end that the step on instruction i gives, 0 where it goes on. Nothing but a collection is written.
@@ -124,7 +122,7 @@ fn in_parts(
             known: known,
         };
     };
-    commit::commit(p, l, h, t, i, known.low);
+    commit::commit(p, l, h, t, i, known.low, known.least);
     Tried {
         outcome: Outcome::Made(n),
         known: known,
@@ -147,18 +145,19 @@ pub fn attempt(
     ensures exact { λ r. ⌜ Attempts (now (p .entry)) (now (l .entry)) (now (h .entry)) (now (t .entry)) i (now (out .entry)) used (r .outcome) (now (h .exit)) (now (t .exit)) (now (out .exit)) ⌝ }
     ensures knows { λ r. ⌜ Knows (now (h .exit)) 0 0 (r .known) ⌝ }
 {
-    match direct::direct(p, l, h, t, i) {
-        Done::Made => Tried {
+    let d = direct::direct(p, l, h, t, i);
+    if d == 0 {
+        return Tried {
             outcome: Outcome::Made(0),
             known: k,
-        },
-        Done::Ended(end) => {
-            heap::set_end_mark(h, end);
-            Tried {
-                outcome: Outcome::Ended(end),
-                known: k,
-            }
-        }
-        Done::Other => in_parts(p, l, h, t, i, out, used, k),
+        };
+    }
+    if d == 255 {
+        return in_parts(p, l, h, t, i, out, used, k);
+    }
+    heap::set_end_mark(h, d);
+    Tried {
+        outcome: Outcome::Ended(d),
+        known: k,
     }
 }

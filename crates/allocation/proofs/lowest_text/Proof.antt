@@ -3,18 +3,18 @@ use native.Mathlib.Omega.{arith}
 use borrow.Author.Needs.{needs}
 use Rattle.heap.specs.Words.{text-used}
 use Rattle.allocation.specs.Allocation.{next-text}
-use Rattle.allocation.proofs.Laws.{Seek, seek-start, seek-none, seek-here, seek-again}
+use Rattle.allocation.proofs.Laws.{Seek, seek-texts, seek-none, seek-here, seek-again}
 use Rattle.allocation.proofs.lowest_text.Statement.{statement}
 use Rattle.allocation.proofs.lowest_text.Tie as tie
 
 abbrev Inv-loop : tie.InvT-loop
-Inv-loop h k₀ k = Seek (text-used h) k
+Inv-loop h low k₀ k = Seek (text-used h) k
 
 abbrev μ-loop : tie.MeasureT-loop
-μ-loop h k₀ k = 256 - k
+μ-loop h low k₀ k = 256 - k
 
 loop-holds : tie.Need-loop-holds Inv-loop μ-loop
-loop-holds c = search seek-start
+loop-holds c = search seek-texts
 
 returns : tie.Need-returns Inv-loop μ-loop
 unfolding next-text

@@ -2,7 +2,38 @@ use Rattle.collector.proofs.Means.{collect-is, collect-means}
 use borrow.Author.Needs.{needs}
 use Rattle.collector.proofs.collect_heap.Statement.{statement}
 use Rattle.collector.proofs.collect_heap.Tie as tie
+use Rattle.collector.proofs.collect_heap.Reads as reads
+use Rattle.collector.proofs.collect_heap.Lts as lts
+use Rattle.collector.proofs.count_marks.Reads as count-marks-reads
+use Rattle.collector.proofs.sweep_frames.Reads as sweep-frames-reads
+use Rattle.collector.proofs.sweep_texts.Reads as sweep-texts-reads
+use Rattle.mark.proofs.mark.Reads as mark-reads
 
+-- src/lib.rt:60:5
+mark-requires : tie.Need-mark-requires
+mark-requires c κs = search needs
+
+-- src/lib.rt:61:5
+sweep-frames-requires : tie.Need-sweep-frames-requires
+sweep-frames-requires c κs = search needs
+
+-- src/lib.rt:62:5
+sweep-texts-requires : tie.Need-sweep-texts-requires
+sweep-texts-requires c κs = search needs
+
+-- src/lib.rt:63:9
+count-marks-requires : tie.Need-count-marks-requires
+count-marks-requires c κs = search needs
+
+-- src/lib.rt:64:9
+count-marks-requires-2 : tie.Need-count-marks-requires-2
+count-marks-requires-2 c κs = search needs
+
+-- src/lib.rt:54:1
+same-length : tie.Need-same-length
+same-length c = search needs
+
+-- src/lib.rt:54:1
 returns : tie.Need-returns
 returns c = (search collect-is, search collect-means)
 
@@ -10,5 +41,10 @@ pub collect-heap-spec : {M : Type 1} → statement M
 collect-heap-spec =
     tie.close
     (tie.spec
-    (λ c κs. search needs) (λ c κs. search needs) (λ c κs. search needs) (λ c κs. search needs) (λ c. search needs)
+    mark-requires
+    sweep-frames-requires
+    sweep-texts-requires
+    count-marks-requires
+    count-marks-requires-2
+    same-length
     returns)

@@ -56,7 +56,7 @@ evaluate-enum-known-d : (t : ℕ) → evaluate-lts.Need-enum-known-d (evaluate-c
 evaluate-enum-known-d t c = search needs
 
 evaluate-flat-requires : (t : ℕ) → evaluate-lts.Need-flat-requires (evaluate-calls t) (evaluate-at t) evaluate.Post
-evaluate-flat-requires t c κs = search evaluate-flat
+evaluate-flat-requires t c κs = (search evaluate-flat, search needs)
 
 evaluate-same-length : (t : ℕ) → evaluate-lts.Need-same-length (evaluate-calls t) (evaluate-at t) evaluate.Post
 evaluate-same-length t c = search needs
@@ -104,7 +104,7 @@ fill-slot-after-requires : (t : ℕ) → fill-lts.Need-slot-after-requires (fill
 fill-slot-after-requires t c κs = search needs
 
 fill-fill-requires : (t : ℕ) → fill-lts.Need-fill-requires (fill-calls t) (fill-at t) fill.Post
-fill-fill-requires t c κs = (search fill-on-falls, (fill-can-go-on _ _ _ _ _ _ (c .before .before .before .before .before .before .before .before .before .before .before .before .before .before .before .before .before .before .before .before .pre .1 .0) (c .before .before .before .before .before .before .before .before .before .before .before .before .before .before .before .if1 .left) _ refl _ _ _ (c .before .before .before .before .before .before .before .before .before .before .before .before .evaluate .ensures) _ (c .before .before .before .before .before .before .slot-name .ensures) _ (c .before .before .before .before .before .add-slot .ensures) _ (c .slot-after .ensures), fill-full _ _ _ _ _ _ (c .before .before .before .before .before .before .before .before .before .before .before .before .before .before .before .before .before .before .before .before .pre .1 .0) (c .before .before .before .before .before .before .before .before .before .before .before .before .before .before .before .if1 .left) _ refl _ _ _ (c .before .before .before .before .before .before .before .before .before .before .before .before .evaluate .ensures) _ (c .before .before .before .before .before .before .slot-name .ensures) _ (c .before .before .before .before .before .add-slot .ensures) _ (c .slot-after .ensures) _ (c .before .before .before .before .before .before .before .before .before .before .before .before .before .before .before .before .before .before .before .before .pre .1 .1)))
+fill-fill-requires t c κs = (search fill-on-falls, (fill-can-go-on _ _ _ _ _ _ (c .before .before .before .before .before .before .before .before .before .before .before .before .before .before .before .before .before .before .before .before .pre .1 .0) (c .before .before .before .before .before .before .before .before .before .before .before .before .before .before .before .if1 .left) _ refl _ _ _ (c .before .before .before .before .before .before .before .before .before .before .before .before .evaluate .ensures) _ (c .before .before .before .before .before .before .slot-name .ensures) _ (c .before .before .before .before .before .add-slot .ensures) _ (c .slot-after .ensures), fill-full _ _ _ _ _ _ (c .before .before .before .before .before .before .before .before .before .before .before .before .before .before .before .before .before .before .before .before .pre .1 .0) (c .before .before .before .before .before .before .before .before .before .before .before .before .before .before .before .if1 .left) _ refl _ _ _ (c .before .before .before .before .before .before .before .before .before .before .before .before .evaluate .ensures) _ (c .before .before .before .before .before .before .slot-name .ensures) _ (c .before .before .before .before .before .add-slot .ensures) _ (c .slot-after .ensures) _ _ (c .before .before .before .before .before .before .before .before .before .before .before .before .before .before .before .before .before .before .before .before .pre .1 .1)))
 
 fill-same-length : (t : ℕ) → fill-lts.Need-same-length (fill-calls t) (fill-at t) fill.Post
 fill-same-length t c = search needs

@@ -30,7 +30,7 @@ returns c = search flat-read
 
 -- src/lib.rt:23:5
 operation-requires : tie.Need-operation-requires
-operation-requires c κs = search flat-can
+operation-requires c κs = (search flat-can, search needs)
 
 -- src/lib.rt:16:1
 same-length-2 : tie.Need-same-length-2

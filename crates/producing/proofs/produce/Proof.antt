@@ -21,7 +21,7 @@ enum-told c = search needs
 
 -- src/lib.rt:55:29
 join-requires : tie.Need-join-requires
-join-requires c κs = can-join _ _ _ _ _ _ _ (c .before .before .before .before .before .before .before .before .before .before .before .pre) _ (c .before .before .before .before .operate .ensures) (c .before .before .enum-told .given .1)
+join-requires c κs = (can-join _ _ _ _ _ _ _ (c .before .before .before .before .before .before .before .before .before .before .before .pre .0) _ (c .before .before .before .before .operate .ensures) (c .before .before .enum-told .given .1), search needs)
 
 -- src/lib.rt:56:31
 enum-told-2 : tie.Need-enum-told-2
@@ -37,7 +37,7 @@ same-length-2 c = search needs
 
 -- src/lib.rt:48:1
 returns : tie.Need-returns
-returns c = produce-integer _ _ _ _ _ _ _ (c .before .before .before .before .before .before .before .before .before .before .pre) _ (c .before .before .before .operate .ensures) _ _ (c .before .o .given .1) (search needs)
+returns c = produce-integer _ _ _ _ _ _ _ (c .before .before .before .before .before .before .before .before .before .before .pre .0) _ (c .before .before .before .operate .ensures) _ _ (c .before .o .given .1) (search needs)
 
 -- src/lib.rt:48:1
 same-length-3 : tie.Need-same-length-3

@@ -1,10 +1,10 @@
-use Rattle.program_names.specs.Tests.{name-ok}
+use Rattle.program_names.specs.Keys.{name-ok-by}
 use borrow.Author.Needs.{needs}
 use Rattle.program_names.proofs.name_ok.Statement.{statement}
 use Rattle.program_names.proofs.name_ok.Tie as tie
 
 returns : tie.Need-returns
-unfolding name-ok
+unfolding name-ok-by
 returns c = cc
 
 pub name-ok-spec : {M : Type 1} → statement M

@@ -1,30 +1,29 @@
 use Prim.Native.Nat.{_-_}
 use native.Mathlib.Omega.{arith}
 use borrow.Author.Needs.{needs}
-use Rattle.program_names.specs.Tests.{names-ok, name-ok}
-use Rattle.words.proofs.Laws.{Upto, upto-start, upto-again, upto-end}
+use Rattle.program_names.proofs.Keys.{KeyedNames, keyed-start, keyed-again, keyed-done}
 use Rattle.program_names.proofs.names_ok.Statement.{statement}
 use Rattle.program_names.proofs.names_ok.Tie as tie
 
 abbrev Inv-loop : tie.InvT-loop
-Inv-loop p n ok₀ k₀ ok k = Upto (name-ok p) n k ok
+Inv-loop p n keys₀ ok₀ k₀ keys ok k = KeyedNames p n k keys ok
 
 abbrev μ-loop : tie.MeasureT-loop
-μ-loop p n ok₀ k₀ ok k = n - k
+μ-loop p n keys₀ ok₀ k₀ keys ok k = n - k
 
 loop-holds : tie.Need-loop-holds Inv-loop μ-loop
-loop-holds c = search upto-start
+loop-holds c = search keyed-start
 
 loop-again : tie.Need-loop-again Inv-loop μ-loop
-loop-again c = search upto-again
+loop-again c = search keyed-again
 
 returns : tie.Need-returns Inv-loop μ-loop
-unfolding names-ok
-returns c = search upto-end
+returns c = search keyed-done
 
 pub names-ok-spec : {M : Type 1} → statement M
 names-ok-spec =
     tie.close
     (tie.spec
-    Inv-loop μ-loop (λ c κs. search needs) loop-holds (λ c κs. search needs) (λ c. omega arith) (λ c. omega arith)
-    loop-again returns)
+    Inv-loop μ-loop (λ c κs. search needs) loop-holds (λ c κs. search needs) (λ c. search needs) (λ c κs. search needs)
+    (λ c. search needs) (λ c κs. search needs) (λ c κs. search needs) (λ c. omega arith) (λ c. omega arith) loop-again
+    returns)

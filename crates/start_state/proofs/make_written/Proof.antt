@@ -1,5 +1,5 @@
 use Rattle.start_state.proofs.Laws.{written-can-fill, written-makes}
-use Rattle.allocation.proofs.Laws.{none-below}
+use Rattle.allocation.proofs.Laws.{none-below, none-full}
 use borrow.Author.Needs.{needs}
 use Rattle.start_state.proofs.make_written.Statement.{statement}
 use Rattle.start_state.proofs.make_written.Tie as tie
@@ -19,7 +19,7 @@ program-slots-requires c κs = search needs
 
 -- src/lib.rt:13:5
 fill-requires : tie.Need-fill-requires
-fill-requires c κs = (search written-can-fill, search none-below)
+fill-requires c κs = (search written-can-fill, search none-full)
 
 -- src/lib.rt:7:1
 same-length : tie.Need-same-length

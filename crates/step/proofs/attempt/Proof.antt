@@ -9,87 +9,72 @@ use Rattle.direct.proofs.direct.Reads as direct-reads
 use Rattle.heap.proofs.set_end_mark.Reads as set-end-mark-reads
 use Rattle.step.proofs.in_parts.Reads as in-parts-reads
 
--- src/lib.rt:150:11
+-- src/lib.rt:148:9
 direct-requires : tie.Need-direct-requires
 direct-requires c κs = search can-do
 
--- src/lib.rt:152:22
-enum-told : tie.Need-enum-told
-enum-told c = search needs
-
--- src/lib.rt:155:21
-enum-known-end : tie.Need-enum-known-end
-enum-known-end c = search needs
-
--- src/lib.rt:156:13
-set-end-mark-requires : tie.Need-set-end-mark-requires
-set-end-mark-requires c κs = search needs
-
--- src/lib.rt:162:39
-enum-told-2 : tie.Need-enum-told-2
-enum-told-2 c = search needs
-
--- src/lib.rt:162:24
-in-parts-requires : tie.Need-in-parts-requires
-in-parts-requires c κs = (search (other-can, c .before .before .before .before .before .before .before .direct .ensures, c .before .before .before .before .before .before .before .before .before .before .before .before .before .before .before .pre .0, c .before .before .before .enum-told2 .given), search (other-knows, c .before .before .before .before .before .before .before .before .before .before .before .before .before .before .before .pre .0, c .before .before .before .before .before .before .before .direct .ensures, c .before .before .before .before .before .before .before .before .before .before .before .before .before .before .before .pre .1, c .before .before .before .enum-told2 .given))
-
--- src/lib.rt:135:1
+-- src/lib.rt:150:9
 same-length : tie.Need-same-length
 same-length c = search needs
 
--- src/lib.rt:135:1
+-- src/lib.rt:150:9
 same-length-2 : tie.Need-same-length-2
 same-length-2 c = search needs
 
--- src/lib.rt:135:1
+-- src/lib.rt:150:9
 returns : tie.Need-returns
-returns c = (search (direct-made, words-fit {h = c .before .before .before .before .direct .last .1 .1 .0} (c .before .before .slice-known4 .given)), search (made-knows-still, c .before .before .before .before .before .before .before .before .before .before .before .before .pre .0, c .before .before .before .before .direct .ensures, c .before .before .before .before .before .before .before .before .before .before .before .before .pre .1, c .enum-told .given))
+returns c = (search (direct-made, words-fit {h = c .before .before .before .direct .last .1 .1 .0} (c .before .slice-known4 .given)), search (made-knows-still, c .before .before .before .before .before .before .before .before .before .before .before .pre .0, c .before .before .before .direct .ensures, c .before .before .before .before .before .before .before .before .before .before .before .pre .1, c .if1 .taken))
 
--- src/lib.rt:135:1
+-- src/lib.rt:156:9
+in-parts-requires : tie.Need-in-parts-requires
+in-parts-requires c κs = (search (other-can, c .before .before .before .before .before .before .before .direct .ensures, c .before .before .before .before .before .before .before .before .before .before .before .before .before .before .before .pre .0, c .before .before .before .if2 .taken), search (other-knows, c .before .before .before .before .before .before .before .before .before .before .before .before .before .before .before .pre .0, c .before .before .before .before .before .before .before .direct .ensures, c .before .before .before .before .before .before .before .before .before .before .before .before .before .before .before .pre .1, c .before .before .before .if2 .taken))
+
+-- src/lib.rt:156:9
 same-length-3 : tie.Need-same-length-3
 same-length-3 c = search needs
 
--- src/lib.rt:135:1
+-- src/lib.rt:156:9
 same-length-4 : tie.Need-same-length-4
 same-length-4 c = search needs
 
--- src/lib.rt:135:1
-returns-2 : tie.Need-returns-2
-returns-2 c = (search (direct-ended, words-fit {h = c .before .before .set-end-mark .last .0} (c .slice-known5 .given)), search (ended-knows-still, c .before .before .before .before .before .before .before .before .before .before .before .before .before .before .before .before .before .pre .0, c .before .before .before .before .before .before .before .before .before .direct .ensures, c .before .before .before .before .before .before .before .before .before .before .before .before .before .before .before .before .before .pre .1, c .before .before .before .before .before .end .given .1, c .before .before .set-end-mark .ensures))
-
--- src/lib.rt:135:1
+-- src/lib.rt:156:9
 same-length-5 : tie.Need-same-length-5
 same-length-5 c = search needs
 
--- src/lib.rt:135:1
+-- src/lib.rt:156:9
+returns-2 : tie.Need-returns-2
+returns-2 c = (search (other-attempts, c .before .before .before .before .before .before .before .before .before .before .before .before .before .before .before .before .before .before .before .before .before .before .pre .0, c .before .before .before .before .before .before .before .before .before .before .before .before .before .before .direct .ensures, c .before .before .before .before .before .before .before .before .before .before .if2 .taken, c .before .before .before .before .before .before .in-parts .ensures .0), c .before .before .before .before .before .before .in-parts .ensures .1)
+
+-- src/lib.rt:158:5
+set-end-mark-requires : tie.Need-set-end-mark-requires
+set-end-mark-requires c κs = search needs
+
+-- src/lib.rt:133:1
 same-length-6 : tie.Need-same-length-6
 same-length-6 c = search needs
 
--- src/lib.rt:135:1
+-- src/lib.rt:133:1
 same-length-7 : tie.Need-same-length-7
 same-length-7 c = search needs
 
--- src/lib.rt:135:1
+-- src/lib.rt:133:1
 returns-3 : tie.Need-returns-3
-returns-3 c = (search (other-attempts, c .before .before .before .before .before .before .before .before .before .before .before .before .before .before .before .before .before .before .before .before .before .before .pre .0, c .before .before .before .before .before .before .before .before .before .before .before .before .before .before .direct .ensures, c .before .before .before .before .before .before .before .before .before .before .enum-told2 .given, c .before .before .before .before .before .before .in-parts .ensures .0), c .before .before .before .before .before .before .in-parts .ensures .1)
+returns-3 c = (search (direct-ended, words-fit {h = c .before .before .set-end-mark .last .0} (c .slice-known8 .given)), search (ended-knows-still, c .before .before .before .before .before .before .before .before .before .before .before .before .before .before .before .before .pre .0, c .before .before .before .before .before .before .before .before .direct .ensures, c .before .before .before .before .before .before .before .before .before .before .before .before .before .before .before .before .pre .1, c .before .before .before .before .before .if1 .left, c .before .before .before .before .if2 .left, c .before .before .set-end-mark .ensures))
 
 pub attempt-spec : {M : Type 1} → statement M
 attempt-spec =
     tie.close
     (tie.spec
     direct-requires
-    enum-told
-    enum-known-end
-    set-end-mark-requires
-    enum-told-2
-    in-parts-requires
     same-length
     same-length-2
     returns
+    in-parts-requires
     same-length-3
     same-length-4
-    returns-2
     same-length-5
+    returns-2
+    set-end-mark-requires
     same-length-6
     same-length-7
     returns-3)
