@@ -229,35 +229,70 @@ unfolding first-end
 first-none a b e = rw e
 
 module _ (p l h t : List ℕ) (z : ℕ) (a : ChecksSlots p l h t z) where
-  pub slots-none : z ≡ 0 → 0 ≡ slots-end p l h t z
+  none-left : z ≡ 0 → 0 ≡ slots-end p l h t z
   unfolding slots-end check-expression
-  slots-none e = rw (e, one-level-held p l (a .memories .program) .no-slots)
+  none-left e = rw (e, one-level-held p l (a .memories .program) .no-slots)
 
   module _ (ne : z ≡ 0 → ⊥) where
-    pub slot-expression : ChecksExpression p l h t (z - 1)
-    slot-expression = record { memories = a .memories; there = places.slot-there p l (a .memories .program) z (a .place) ne }
+    at-slot : ChecksExpression p l h t (z - 1)
+    at-slot = record { memories = a .memories; there = places.slot-there p l (a .memories .program) z (a .place) ne }
 
-    pub slot-falls : (n : ℕ) → slots-measure z ≡ n → expression-measure (z - 1) < n
-    slot-falls n q = rw (← q) (places.slot-falls p l (a .memories .program) z (a .place) ne)
+    slot-below : (n : ℕ) → slots-measure z ≡ n → expression-measure (z - 1) < n
+    slot-below n q = rw (← q) (places.slot-falls p l (a .memories .program) z (a .place) ne)
 
     module _ (n : ℕ) (next : n ≡ slot-after p (z - 1)) where
-      pub next-slots : ChecksSlots p l h t n
-      next-slots = record { memories = a .memories; place = places.next-place p l (a .memories .program) z (a .place) ne n next }
+      at-next : ChecksSlots p l h t n
+      at-next = record { memories = a .memories; place = places.next-place p l (a .memories .program) z (a .place) ne n next }
 
-      pub next-falls : (m : ℕ) → slots-measure z ≡ m → slots-measure n < m
-      next-falls m q = rw (← q) (places.next-falls p l (a .memories .program) z (a .place) ne n next)
+      next-below : (m : ℕ) → slots-measure z ≡ m → slots-measure n < m
+      next-below m q = rw (← q) (places.next-falls p l (a .memories .program) z (a .place) ne n next)
 
       slots-first : slots-end p l h t z ≡ first-end (expression-end p l h t (z - 1)) (slots-end p l h t n)
       unfolding slots-end expression-end check-expression
       slots-first = rw (places.slots-open p l (a .memories .program) z (a .place) ne n next)
 
-      pub slots-rest : (b r : ℕ) → b ≡ expression-end p l h t (z - 1) → b ≡ 0 → r ≡ slots-end p l h t n → r ≡ slots-end p l h t z
-      slots-rest b r eb e er = rw (er, slots-first) (first-none (expression-end p l h t (z - 1)) (slots-end p l h t n) (sym eb ∙ e))
+      rest-is : (b r : ℕ) → b ≡ expression-end p l h t (z - 1) → b ≡ 0 → r ≡ slots-end p l h t n → r ≡ slots-end p l h t z
+      rest-is b r eb e er = rw (er, slots-first) (first-none (expression-end p l h t (z - 1)) (slots-end p l h t n) (sym eb ∙ e))
 
-    pub slots-met : (b : ℕ) → b ≡ expression-end p l h t (z - 1) → (b ≡ 0 → ⊥) → b ≡ slots-end p l h t z
-    slots-met b eb met =
+    met-here : (b : ℕ) → b ≡ expression-end p l h t (z - 1) → (b ≡ 0 → ⊥) → b ≡ slots-end p l h t z
+    met-here b eb met =
         rw (eb, slots-first (slot-after p (z - 1)) refl)
         (first-found (expression-end p l h t (z - 1)) (slots-end p l h t (slot-after p (z - 1))) (λ q. met (eb ∙ q)))
+
+-- the loop: what the slots from z on end with is the answer
+module _ (p l h t : List ℕ) (from : ℕ) where
+  pub record Checking (z : ℕ) : Type 0 where
+    at : ChecksSlots p l h t z
+    fewer : slots-measure z ≤ slots-measure from
+    rest : slots-end p l h t z ≡ slots-end p l h t from
+
+  pub slots-start : ChecksSlots p l h t from → Checking from
+  slots-start a = record { at = a; fewer = omega arith; rest = refl }
+
+  module _ (z : ℕ) (k : Checking z) where
+    pub slots-none : z ≡ 0 → 0 ≡ slots-end p l h t from
+    slots-none e = none-left p l h t z (k .at) e ∙ k .rest
+
+    module _ (ne : z ≡ 0 → ⊥) where
+      pub slot-expression : ChecksExpression p l h t (z - 1)
+      slot-expression = at-slot p l h t z (k .at) ne
+
+      pub slot-falls : (n : ℕ) → slots-measure from ≡ n → expression-measure (z - 1) < n
+      slot-falls n e = let a = slot-below p l h t z (k .at) ne (slots-measure z) refl in let b = k .fewer in omega arith
+
+      pub slots-met : (b : ℕ) → b ≡ expression-end p l h t (z - 1) → (b ≡ 0 → ⊥) → b ≡ slots-end p l h t from
+      slots-met b eb met = met-here p l h t z (k .at) ne b eb met ∙ k .rest
+
+      module _ (n : ℕ) (next : n ≡ slot-after p (z - 1)) where
+        pub next-falls : slots-measure n < slots-measure z
+        next-falls = next-below p l h t z (k .at) ne n next (slots-measure z) refl
+
+        pub slots-again : (b : ℕ) → b ≡ expression-end p l h t (z - 1) → b ≡ 0 → Checking n
+        slots-again b eb e = record {
+          at = at-next p l h t z (k .at) ne n next;
+          fewer = let a = next-falls in let c = k .fewer in omega arith;
+          rest = rest-is p l h t z (k .at) ne n next b (slots-end p l h t n) eb e refl ∙ k .rest;
+        }
 
 -- ---- check_assign
 

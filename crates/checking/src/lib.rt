@@ -73,19 +73,20 @@ pub fn check_expression<'a>(p: &[u32], l: &'a [u8], h: &[u32], t: &'a [u8], x: u
     check_slots(p, l, h, t, tables::link(1024, x, d))
 }
 
-// The slots from the place z on, in order.
-pub fn check_slots<'a>(p: &[u32], l: &'a [u8], h: &[u32], t: &'a [u8], z: u32) -> u32
-    requires { ⌜ ChecksSlots (now p) (now l) (now h) (now t) z ⌝ }
-    ensures { λ r. ⌜ r ≡ slots-end (now (p .entry)) (now (l .entry)) (now (h .entry)) (now (t .entry)) z ⌝ }
+// The slots from a place on, in order.
+pub fn check_slots<'a>(p: &[u32], l: &'a [u8], h: &[u32], t: &'a [u8], from: u32) -> u32
+    requires { ⌜ ChecksSlots (now p) (now l) (now h) (now t) from ⌝ }
+    ensures { λ r. ⌜ r ≡ slots-end (now (p .entry)) (now (l .entry)) (now (h .entry)) (now (t .entry)) from ⌝ }
 {
-    if z == 0 {
-        return 0;
+    let mut z = from;
+    while z != 0 {
+        let e = check_expression(p, l, h, t, z - 1);
+        if e != 0 {
+            return e;
+        }
+        z = tables::slot_after(p, z - 1);
     }
-    let e = check_expression(p, l, h, t, z - 1);
-    if e != 0 {
-        return e;
-    }
-    check_slots(p, l, h, t, tables::slot_after(p, z - 1))
+    0
 }
 
 // The expression, then the path from root.

@@ -108,15 +108,7 @@ pub fn go_on(p: &[u32], h: &mut [u32], i: u32)
 }
 
 // What instruction i does. Every frame below `low` and every made text below `least` is in use.
-pub fn commit(
-    p: &[u32],
-    l: &[u8],
-    h: &mut [u32],
-    t: &mut [u8],
-    i: u32,
-    low: u32,
-    least: u32,
-)
+pub fn commit(p: &[u32], l: &[u8], h: &mut [u32], t: &mut [u8], i: u32, low: u32, least: u32)
     requires { ⌜ CanCommit (now p) (now l) (now h) (now t) i ⌝ }
     requires { ⌜ Full (now h) low least ⌝ }
     ensures { λ _. ⌜ Commits (now (p .entry)) (now (l .entry)) (now (h .entry)) (now (t .entry)) i (now (h .exit)) (now (t .exit)) ⌝ }

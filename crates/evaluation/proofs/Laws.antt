@@ -144,9 +144,9 @@ module _ (p l h t : List ℕ) (f z : ℕ) (can : CanFill p l h t f z) where
   G : Sound p
   G = sound p l (can .writable .program)
 
-  pub fill-none : z ≡ 0 → Fills p l h t f z h t
+  none-left : z ≡ 0 → Fills p l h t f z h t
   unfolding fill
-  fill-none e = record { stored = rw (e, one .no-slots); leaves = leaves-none _ _ (can .writable .sized) (can .writable .text-size) }
+  none-left e = record { stored = rw (e, one .no-slots); leaves = leaves-none _ _ (can .writable .sized) (can .writable .text-size) }
 
   module _ (nz : z ≡ 0 → ⊥) (y : ℕ) (ey : y ≡ z - 1) where
     z-is : z ≡ suc y
@@ -172,16 +172,16 @@ module _ (p l h t : List ℕ) (f z : ℕ) (can : CanFill p l h t f z) where
     unfolding join-signs-in
     signs-in = rw slots-are
 
-    pub fill-can-evaluate : CanEvaluate p l h t y
-    fill-can-evaluate = record {
+    slot-can : CanEvaluate p l h t y
+    slot-can = record {
       writable = can .writable;
       there = there;
       room = record { frames = let q = can .room .frames in let a = literals-in in omega arith; texts = let q = can .room .texts in let a = signs-in in omega arith };
     }
 
-    pub fill-falls : (m : ℕ) → slots-left z ≡ m → 2 * (1024 - y) < m
+    slot-below : (m : ℕ) → slots-left z ≡ m → 2 * (1024 - y) < m
     unfolding slots-left
-    fill-falls m em = let q : 2 * (1024 - y) + 1 ≡ m = rw z-is at em in omega arith
+    slot-below m em = let q : 2 * (1024 - y) + 1 ≡ m = rw z-is at em in omega arith
 
     module _ (v : Value) (h₁ t₁ : List ℕ) (m : Evaluates p l h t y v h₁ t₁) (x : ℕ) (ex : x ≡ slot-name p y) (h₂ : List ℕ) (eh : h₂ ≡ add-slot h₁ f x v) (w : ℕ) (ew : w ≡ slot-after p y) where
       pushed : Leaves h₁ t₁ 0 0 h₂ t₁
@@ -190,8 +190,8 @@ module _ (p l h t : List ℕ) (f z : ℕ) (can : CanFill p l h t f z) where
       so-far : Leaves h t (frame-literals (expression-held p y) + 0) (join-signs (expression-held p y) + 0) h₂ t₁
       so-far = leaves-both (m .leaves) pushed
 
-      pub fill-can-go-on : CanFill p l h₂ t₁ f w
-      fill-can-go-on = rw ew (record {
+      next-can : CanFill p l h₂ t₁ f w
+      next-can = rw ew (record {
         writable = record { program = can .writable .program; sized = so-far .sized; text-size = so-far .text-size };
         place = SlotPlace.after y place;
         frame = so-far .stay f (can .frame);
@@ -201,19 +201,19 @@ module _ (p l h t : List ℕ) (f z : ℕ) (can : CanFill p l h t f z) where
         };
       })
 
-      pub fill-full : (low least : ℕ) → Full h low least → Full h₂ low least
-      fill-full low least a = full-after so-far a
+      next-full : (low least : ℕ) → Full h low least → Full h₂ low least
+      next-full low least a = full-after so-far a
 
-      pub fill-on-falls : (k : ℕ) → slots-left z ≡ k → slots-left w < k
+      next-below : (k : ℕ) → slots-left z ≡ k → slots-left w < k
       unfolding slots-left
-      fill-on-falls k ek = go w ew
+      next-below k ek = go w ew
         where
           go : (w : ℕ) → w ≡ slot-after p y → slots-left w < k
           go zero e = let q : 2 * (1024 - y) + 1 ≡ k = rw z-is at ek in omega arith
           go (suc u) e = let q : 2 * (1024 - y) + 1 ≡ k = rw z-is at ek in let a = G .slot-larger y u (sym e) in let b = y-small in omega arith
 
-      pub fill-again : (h₃ t₃ : List ℕ) → Fills p l h₂ t₁ f w h₃ t₃ → Fills p l h t f z h₃ t₃
-      fill-again h₃ t₃ k =
+      rest-filled : (h₃ t₃ : List ℕ) → Fills p l h₂ t₁ f w h₃ t₃ → Fills p l h t f z h₃ t₃
+      rest-filled h₃ t₃ k =
           let a = literals-in in
           let b = signs-in in
           let c = leaves-both so-far (rw ew at (k .leaves)) in
@@ -230,3 +230,52 @@ module _ (p l h t : List ℕ) (f z : ℕ) (can : CanFill p l h t f z) where
               ∙ ap (λ (r : Produced Memories). fill word-store (strings p l) (self-held h) (program-held h) f (slots-held p (slot-after p y)) (word-store .push (r .store) f (slot-name p y) (r .value))) (m .produced)
               ∙ ap (fill word-store (strings p l) (self-held h) (program-held h) f (slots-held p (slot-after p y))) ep
               ∙ s
+
+-- the loop: what fills the slots from z on then fills all
+module _ (p l : List ℕ) (f from low least : ℕ) (h₀ t₀ : List ℕ) where
+  pub record Filling (h t : List ℕ) (z : ℕ) : Type 0 where
+    can : CanFill p l h t f z
+    full : Full h low least
+    fewer : slots-left z ≤ slots-left from
+    size : length h ≡ length h₀
+    text-size : length t ≡ length t₀
+    back : (h₃ t₃ : List ℕ) → Fills p l h t f z h₃ t₃ → Fills p l h₀ t₀ f from h₃ t₃
+
+  pub fill-start : CanFill p l h₀ t₀ f from → Full h₀ low least → Filling h₀ t₀ from
+  fill-start a b = record { can = a; full = b; fewer = omega arith; size = refl; text-size = refl; back = λ h₃ t₃ k. k }
+
+  module _ (h t : List ℕ) (z : ℕ) (k : Filling h t z) where
+    pub fill-size : length h ≡ length h₀
+    fill-size = k .size
+
+    pub fill-text-size : length t ≡ length t₀
+    fill-text-size = k .text-size
+
+    pub fill-done : z ≡ 0 → Fills p l h₀ t₀ f from h t
+    fill-done e = k .back h t (none-left p l h t f z (k .can) e)
+
+    module _ (nz : z ≡ 0 → ⊥) where
+      pub fill-can-evaluate : CanEvaluate p l h t (z - 1)
+      fill-can-evaluate = slot-can p l h t f z (k .can) nz (z - 1) refl
+
+      pub fill-full : Full h low least
+      fill-full = k .full
+
+      pub fill-falls : (m : ℕ) → slots-left from ≡ m → 2 * (1024 - (z - 1)) < m
+      fill-falls m em = let a = slot-below p l h t f z (k .can) nz (z - 1) refl (slots-left z) refl in let b = k .fewer in omega arith
+
+      module _ (v : Value) (h₁ t₁ : List ℕ) (m : Evaluates p l h t (z - 1) v h₁ t₁) (x : ℕ) (ex : x ≡ slot-name p (z - 1)) (h₂ : List ℕ) (eh : h₂ ≡ add-slot h₁ f x v) (w : ℕ) (ew : w ≡ slot-after p (z - 1)) where
+        pub fill-less : slots-left w < slots-left z
+        fill-less = next-below p l h t f z (k .can) nz (z - 1) refl v h₁ t₁ m x ex h₂ eh w ew (slots-left z) refl
+
+        pub fill-again : Filling h₂ t₁ w
+        fill-again =
+            let c = next-can p l h t f z (k .can) nz (z - 1) refl v h₁ t₁ m x ex h₂ eh w ew in
+            record {
+              can = c;
+              full = next-full p l h t f z (k .can) nz (z - 1) refl v h₁ t₁ m x ex h₂ eh w ew low least (k .full);
+              fewer = let a = fill-less in let b = k .fewer in omega arith;
+              size = c .writable .sized .size ∙ sym (k .can .writable .sized .size) ∙ k .size;
+              text-size = c .writable .text-size ∙ sym (k .can .writable .text-size) ∙ k .text-size;
+              back = λ h₃ t₃ q. k .back h₃ t₃ (rest-filled p l h t f z (k .can) nz (z - 1) refl v h₁ t₁ m x ex h₂ eh w ew h₃ t₃ q);
+            }

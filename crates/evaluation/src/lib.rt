@@ -48,26 +48,26 @@ pub fn evaluate(
     Value::Frame(f)
 }
 
-// The slots from the place z on: each is evaluated, then pushed on frame f.
+// The slots from a place on: each is evaluated, then pushed on frame f.
 pub fn fill(
     p: &[u32],
     l: &[u8],
     h: &mut [u32],
     t: &mut [u8],
     f: u32,
-    z: u32,
+    from: u32,
     low: u32,
     least: u32,
 )
-    requires { ⌜ CanFill (now p) (now l) (now h) (now t) f z ⌝ }
+    requires { ⌜ CanFill (now p) (now l) (now h) (now t) f from ⌝ }
     requires { ⌜ Full (now h) low least ⌝ }
-    ensures { λ _. ⌜ Fills (now (p .entry)) (now (l .entry)) (now (h .entry)) (now (t .entry)) f z (now (h .exit)) (now (t .exit)) ⌝ }
+    ensures { λ _. ⌜ Fills (now (p .entry)) (now (l .entry)) (now (h .entry)) (now (t .entry)) f from (now (h .exit)) (now (t .exit)) ⌝ }
 {
-    if z == 0 {
-        return;
+    let mut z = from;
+    while z != 0 {
+        let y = z - 1;
+        let v = evaluate(p, l, h, t, y, low, least);
+        heap::add_slot(h, f, tables::slot_name(p, y), v);
+        z = tables::slot_after(p, y);
     }
-    let y = z - 1;
-    let v = evaluate(p, l, h, t, y, low, least);
-    heap::add_slot(h, f, tables::slot_name(p, y), v);
-    fill(p, l, h, t, f, tables::slot_after(p, y), low, least);
 }

@@ -220,8 +220,8 @@ module _ {h h′ : List ℕ} where
     high-frames s le = frames-by s (λ g lt. local-same l _ _ (λ k lo hi lo′ hi′. omega arith))
 
     -- a change below the made texts
-    pub leasts : b ≤ 13184 → SameTexts h h′
-    leasts le = texts-by (λ k lt. local-same l _ _ (λ j lo hi lo′ hi′. omega arith))
+    pub low-texts : b ≤ 13184 → SameTexts h h′
+    low-texts le = texts-by (λ k lt. local-same l _ _ (λ j lo hi lo′ hi′. omega arith))
 
     -- a change above the header
     pub high-header : 6 ≤ a → SameHeader h h′
@@ -261,7 +261,7 @@ module _ (h : List ℕ) (s : Sized h) where
     set-self-frames = low-frames (set-self-local h (s .size) v) s (omega arith)
 
     pub set-self-texts : SameTexts h (set-self h v)
-    set-self-texts = leasts (set-self-local h (s .size) v) (omega arith)
+    set-self-texts = low-texts (set-self-local h (s .size) v) (omega arith)
 
     pub set-self-sized : Sized (set-self h v)
     set-self-sized = low-sized (set-self-local h (s .size) v) s (omega arith)
@@ -280,7 +280,7 @@ module _ (h : List ℕ) (s : Sized h) where
     set-program-frames = low-frames (set-program-local h (s .size) v) s (omega arith)
 
     pub set-program-texts : SameTexts h (set-program h v)
-    set-program-texts = leasts (set-program-local h (s .size) v) (omega arith)
+    set-program-texts = low-texts (set-program-local h (s .size) v) (omega arith)
 
     pub set-program-sized : Sized (set-program h v)
     set-program-sized = low-sized (set-program-local h (s .size) v) s (omega arith)
@@ -300,7 +300,7 @@ module _ (h : List ℕ) (s : Sized h) where
     set-position-frames = low-frames (set-position-local h (s .size) p) s (omega arith)
 
     pub set-position-texts : SameTexts h (set-position h p)
-    set-position-texts = leasts (set-position-local h (s .size) p) (omega arith)
+    set-position-texts = low-texts (set-position-local h (s .size) p) (omega arith)
 
     pub set-position-sized : Sized (set-position h p)
     set-position-sized = low-sized (set-position-local h (s .size) p) s (omega arith)
@@ -319,7 +319,7 @@ module _ (h : List ℕ) (s : Sized h) where
     set-end-frames = low-frames (set-end-local h (s .size) p) s (omega arith)
 
     pub set-end-texts : SameTexts h (set-end-mark h p)
-    set-end-texts = leasts (set-end-local h (s .size) p) (omega arith)
+    set-end-texts = low-texts (set-end-local h (s .size) p) (omega arith)
 
     pub set-end-sized : Sized (set-end-mark h p)
     set-end-sized = low-sized (set-end-local h (s .size) p) s (omega arith)
@@ -350,7 +350,7 @@ module _ (h h′ : List ℕ) (s : Sized h) (f : ℕ) (hf : f < 256) (l : Local (
       go g lt (no ne) u = rw (same-count {h = h} {h′ = h′} g (same-part (apart g ne) _ _ (omega arith) (omega arith))) (s .slots g lt (sym (others-used g ne) ∙ u))
 
   pub kept-texts : SameTexts h h′
-  kept-texts = leasts l (omega arith)
+  kept-texts = low-texts l (omega arith)
 
   kept-header : SameHeader h h′
   kept-header = high-header l (omega arith)

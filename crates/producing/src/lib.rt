@@ -34,15 +34,7 @@ pub fn read(p: &[u32], h: &[u32], x: u32) -> Value
 }
 
 // A new made text with the bytes of the two values; those below `low` are in use.
-pub fn join(
-    p: &[u32],
-    l: &[u8],
-    h: &mut [u32],
-    t: &mut [u8],
-    v: Value,
-    w: Value,
-    low: u32,
-) -> Value
+pub fn join(p: &[u32], l: &[u8], h: &mut [u32], t: &mut [u8], v: Value, w: Value, low: u32) -> Value
     requires { ⌜ CanJoin (now p) (now l) (now h) (now t) v w ⌝ }
     requires { ⌜ TextsFull (now h) low ⌝ }
     ensures { λ r. ⌜ Joins (now (p .entry)) (now (l .entry)) (now (h .entry)) (now (t .entry)) v w r (now (h .exit)) (now (t .exit)) ⌝ }

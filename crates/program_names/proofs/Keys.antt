@@ -10,13 +10,14 @@ use lib.Dec.{eqb, ltb, leb}
 use lib.ListN.{length, replicate}
 use borrow.Author.Tests.{eqb-true, le-leb, lt-leb, leb-true, lt-ltb, le-ltb}
 use Rattle.words.specs.Words.{word, set-word, all-below}
-use Rattle.words.proofs.Laws.{Upto, upto-start, upto-again, upto-end, all-means, all-if, set-size, word-other, word-same}
+use Rattle.words.proofs.Laws.{Upto, upto-start, upto-again, upto-done, upto-end, all-means, all-if, set-size, word-other, word-same}
 use Rattle.tables.proofs.Bools.{split2, both-not, not-eq}
 use Rattle.tables.specs.Fields.{names, name-length, name-byte}
-use Rattle.program_names.specs.Tests.{same-byte, same-bytes, names-differ, new-name, name-ok, names-ok}
+use Rattle.program_names.specs.Tests.{name-byte-ok, name-bytes-ok, same-byte, same-bytes, names-differ, new-name, name-ok, names-ok}
+use Rattle.program_names.proofs.Laws.{name-bytes-end}
 use Rattle.program_names.specs.Keys.{key-upto, key-bytes, name-key, other-key, other-keys, is-new, name-ok-by}
 
--- ---- name_key
+-- ---- The key so far
 
 pub record KeyUpto (p : List ℕ) (k n i key : ℕ) : Type 0 where
   pub few : i ≤ 16
@@ -48,6 +49,40 @@ module _ (p : List ℕ) (k n i key : ℕ) (u : KeyUpto p k n i key) (en : n ≡ 
 
       full : i ≤ 16 → i ≡ 16
       full l = omega arith
+
+-- ---- spell
+
+pub record Spelling (p : List ℕ) (k n i : ℕ) (ok : Bool) (key : ℕ) : Type 0 where
+  pub keyed : KeyUpto p k n i key
+  pub bytes : Upto (name-byte-ok p k) 16 i ok
+
+pub spelling-start : (p : List ℕ) (k n : ℕ) → n ≡ name-length p k → Spelling p k n 0 true (n % 65536)
+spelling-start p k n e = record { keyed = key-start p k n e; bytes = upto-start (name-byte-ok p k) 16 }
+
+module _ (p : List ℕ) (k n i : ℕ) (ok : Bool) (key : ℕ) (u : Spelling p k n i ok key) (en : n ≡ name-length p k) where
+  pub spelling-again : (b : ℕ) → i < 16 → i < n → b ≡ name-byte p k i → Spelling p k n (i + 1) (ok && ltb b 256) (key % 16777216 * 37 + b % 65536)
+  unfolding name-byte-ok
+  spelling-again b lt below e = record {
+    keyed = key-again p k n i key (u .keyed) en b lt below e;
+    bytes = upto-again (name-byte-ok p k) 16 i ok (ltb b 256) (u .bytes) lt (rw (← e, ← en, lt-leb n i below) (or-false (ltb b 256)));
+  }
+    where
+      or-false : (t : Bool) → t ≡ t || false
+      or-false true = refl
+      or-false false = refl
+
+  pub plain-end : n ≤ i → ok ≡ name-bytes-ok p k
+  plain-end le = name-bytes-end p k n i ok (u .bytes) en le
+
+  pub plain-done : 16 ≤ i → ok ≡ name-bytes-ok p k
+  unfolding name-bytes-ok
+  plain-done le = upto-done (name-byte-ok p k) 16 i ok (u .bytes) le
+
+  pub spelled-end : i < 16 → n ≤ i → key ≡ name-key p k
+  spelled-end lt le = key-end p k n i key (u .keyed) en lt le
+
+  pub spelled-done : 16 ≤ i → key ≡ name-key p k
+  spelled-done le = key-done p k n i key (u .keyed) en le
 
 -- ---- The same name has the same key
 
@@ -136,14 +171,13 @@ module _ (p : List ℕ) (n k : ℕ) (keys : List ℕ) (ok : Bool) (u : KeyedName
           ap (word (set-word keys k x)) e ∙ word-same keys k x (omega (arith, u .keyed .size)) ∙ ex ∙ ap (name-key p) (sym e)
       read j lt few (no ne) = word-other keys k j x (name-key p j) ne (u .keyed .here j (omega arith) few)
 
-  pub keyed-again : (keys′ : List ℕ) (a x : ℕ) (b : Bool) → k < n → x ≡ name-key p k → b ≡ name-ok-by p keys k x → a ≡ k → keys′ ≡ set-word keys a x
-      → KeyedNames p n (k + 1) keys′ (ok && b)
+  pub keyed-again : (keys′ : List ℕ) (a x : ℕ) (plain b : Bool) → k < n → plain ≡ name-bytes-ok p k → x ≡ name-key p k → b ≡ name-ok-by p keys k plain x → a ≡ k
+      → keys′ ≡ set-word keys a x → KeyedNames p n (k + 1) keys′ (ok && b)
   unfolding name-ok name-ok-by
-  keyed-again keys′ a x b lt ex eb ea g =
-      record {
-        keyed = more-keys keys′ a x ea ex g;
-        upto = upto-again (name-ok p) n k ok b (u .upto) lt (rw (new-by-keys p k x keys (u .keyed) ex) at eb);
-      }
+  keyed-again keys′ a x plain b lt ep ex eb ea g = record {
+    keyed = more-keys keys′ a x ea ex g;
+    upto = upto-again (name-ok p) n k ok b (u .upto) lt (rw (new-by-keys p k x keys (u .keyed) ex, ep) at eb);
+  }
 
   pub keyed-done : n ≤ k → n ≡ names p → ok ≡ names-ok p
   unfolding names-ok

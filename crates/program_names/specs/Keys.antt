@@ -6,7 +6,7 @@ use Prim.Native.Nat.{ℕ, zero, suc, _+_, _*_, _%_}
 use lib.Dec.{eqb, leb, ltb}
 use Rattle.words.specs.Words.{pick, word, all-below}
 use Rattle.tables.specs.Fields.{name-length, name-byte}
-use Rattle.program_names.specs.Tests.{name-bytes-ok, new-name}
+use Rattle.program_names.specs.Tests.{new-name}
 
 -- the key of name k after i of its bytes
 unfoldable pub key-upto : List ℕ → ℕ → ℕ → ℕ
@@ -30,5 +30,6 @@ other-keys keys n x = all-below (other-key keys x) n
 unfoldable pub is-new : List ℕ → List ℕ → ℕ → ℕ → Bool
 is-new p keys k x = (leb k 128 && other-keys keys k x) || new-name p k
 
-unfoldable pub name-ok-by : List ℕ → List ℕ → ℕ → ℕ → Bool
-name-ok-by p keys k x = leb 1 (name-length p k) && leb (name-length p k) 16 && name-bytes-ok p k && is-new p keys k x
+-- `plain`: the bytes of name k are bytes
+unfoldable pub name-ok-by : List ℕ → List ℕ → ℕ → Bool → ℕ → Bool
+name-ok-by p keys k plain x = leb 1 (name-length p k) && leb (name-length p k) 16 && plain && is-new p keys k x

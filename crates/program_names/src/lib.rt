@@ -19,7 +19,7 @@ use words::word;
 ghost use mathlib.Core.Path.{_≡_};
 ghost use Rattle.framed.specs.Bytes.{string-byte};
 ghost use Rattle.program_names.specs.Keys.{name-key, other-keys, is-new, name-ok-by};
-ghost use Rattle.program_names.specs.Tests.{limits-ok, name-byte-ok, name-bytes-ok, same-bytes, names-differ, new-name};
+ghost use Rattle.program_names.specs.Tests.{limits-ok, name-bytes-ok, same-bytes, names-differ, new-name};
 ghost use Rattle.program_names.specs.Tests.{names-ok, literal-byte-ok, literal-bytes-ok, literal-ok, literals-ok, path-name-ok, path-names-ok, texts-ok};
 
 pub fn limits_ok(p: &[u32]) -> bool
@@ -35,28 +35,6 @@ pub fn limits_ok(p: &[u32]) -> bool
         & (codes(p) <= 128)
         & (path_names(p) <= 2048)
         & (start(p) < codes(p))
-}
-
-fn name_byte_ok(p: &[u32], k: u32, i: u32) -> bool
-    ensures { λ r. ⌜ r ≡ name-byte-ok (now (p .entry)) k i ⌝ }
-{
-    (name_byte(p, k, i) < 256) | (name_length(p, k) <= i)
-}
-
-fn name_bytes_ok(p: &[u32], k: u32) -> bool
-    ensures { λ r. ⌜ r ≡ name-bytes-ok (now (p .entry)) k ⌝ }
-{
-    let n = name_length(p, k);
-    let mut ok = true;
-    let mut i = 0u32;
-    while i < 16 {
-        if n <= i {
-            return ok;
-        }
-        ok = ok & name_byte_ok(p, k, i);
-        i += 1;
-    }
-    ok
 }
 
 // up to the end of name k, or to the first byte that differs
@@ -99,21 +77,37 @@ fn new_name(p: &[u32], k: u32) -> bool
     ok
 }
 
-// A number of name k that depends only on its length and its bytes: names of different keys are different.
-fn name_key(p: &[u32], k: u32) -> u32
-    ensures { λ r. ⌜ r ≡ name-key (now (p .entry)) k ⌝ }
+// What one reading of a name tells: whether its bytes are bytes, and its key.
+struct Spelled {
+    plain: bool,
+    key: u32,
+}
+
+// The key of name k depends only on its length and its bytes: names of different keys are different.
+fn spell(p: &[u32], k: u32) -> Spelled
+    ensures plain { λ r. ⌜ r .plain ≡ name-bytes-ok (now (p .entry)) k ⌝ }
+    ensures key { λ r. ⌜ r .key ≡ name-key (now (p .entry)) k ⌝ }
 {
     let n = name_length(p, k);
+    let mut ok = true;
     let mut key = n % 65536;
     let mut i = 0u32;
     while i < 16 {
         if n <= i {
-            return key;
+            return Spelled {
+                plain: ok,
+                key: key,
+            };
         }
-        key = key % 16777216 * 37 + name_byte(p, k, i) % 65536;
+        let b = name_byte(p, k, i);
+        ok = ok & (b < 256);
+        key = key % 16777216 * 37 + b % 65536;
         i += 1;
     }
-    key
+    Spelled {
+        plain: ok,
+        key: key,
+    }
 }
 
 // none of the first n keys is x
@@ -142,13 +136,10 @@ fn is_new(p: &[u32], keys: &[u32], k: u32, x: u32) -> bool
     new_name(p, k)
 }
 
-fn name_ok(p: &[u32], keys: &[u32], k: u32, x: u32) -> bool
-    ensures { λ r. ⌜ r ≡ name-ok-by (now (p .entry)) (now (keys .entry)) k x ⌝ }
+fn name_ok(p: &[u32], keys: &[u32], k: u32, plain: bool, x: u32) -> bool
+    ensures { λ r. ⌜ r ≡ name-ok-by (now (p .entry)) (now (keys .entry)) k plain x ⌝ }
 {
-    (1 <= name_length(p, k))
-        & (name_length(p, k) <= 16)
-        & name_bytes_ok(p, k)
-        & is_new(p, keys, k, x)
+    (1 <= name_length(p, k)) & (name_length(p, k) <= 16) & plain & is_new(p, keys, k, x)
 }
 
 fn names_ok(p: &[u32]) -> bool
@@ -159,8 +150,9 @@ fn names_ok(p: &[u32]) -> bool
     let mut ok = true;
     let mut k = 0;
     while k < n {
-        let x = name_key(p, k);
-        ok = ok & name_ok(p, &keys, k, x);
+        let s = spell(p, k);
+        let x = s.key;
+        ok = ok & name_ok(p, &keys, k, s.plain, x);
         set_word(&mut keys, wide(k), x);
         k += 1;
     }

@@ -22,7 +22,7 @@ use Rattle.allocation.specs.Known.{FullBelow, TextsFull, Full, Knows}
 use Rattle.allocation.proofs.Laws.{none-full, next-full, next-text-full}
 use Rattle.collector.specs.Collect.{Collection, collection, in-use-totals, collect-heap}
 use Rattle.reserving.specs.declared.Reserved.{Reserved}
-use Rattle.reserving.specs.Reserving.{room-end-held, reserved-words, Reserves, added, Sought, CountedTo, Reckons}
+use Rattle.reserving.specs.Reserving.{room-end-held, reserved-words, Reserves, added, Sought, CountedTo, TextsCounted, Reckons}
 
 -- ---- add
 
@@ -150,16 +150,16 @@ module _ (p h : List ℕ) (f n low least : ℕ) (full : Full h low least) (x y :
       go false true = refl
       go false false = refl
 
-module _ (p h : List ℕ) (f n : ℕ) (k : Known) (known : Knows h 0 0 k) (F : ℕ) (eF : F ≡ frame-limit p) (x y : ℕ) (cx : CountedTo h F f x) (ey : y ≡ length (texts-in-use h))
+module _ (p h : List ℕ) (f n : ℕ) (k : Known) (known : Knows h 0 0 k) (F : ℕ) (eF : F ≡ frame-limit p) (x y : ℕ) (cx : CountedTo h F f x) (cy : TextsCounted h F f x y)
     (b : Reserved) (eb : b ≡ added p f n (record { frames = x; texts = y; low = k .low; least = k .least })) where
   -- where there seems to be room, all were counted; where frames lack, they do
-  exact : b .end ≡ 0 → x ≡ length (frames-in-use h)
+  fits : b .end ≡ 0 → x + f ≤ F
   unfolding added
-  exact z = go (decLt (frame-limit p) (x + f))
+  fits z = go (decLt (frame-limit p) (x + f))
     where
-      go : Dec (frame-limit p < x + f) → x ≡ length (frames-in-use h)
+      go : Dec (frame-limit p < x + f) → x + f ≤ F
       go (yes lt) = absurd (let q : _≡_ {A = ℕ} 36 0 = rw (eb, lt-ltb (frame-limit p) (x + f) lt) at z in omega arith)
-      go (no ge) = cx .all (omega arith)
+      go (no ge) = omega arith
 
   full-then : (b .end ≡ 0 → ⊥) → room-end-held p h f n ≡ 0 → ⊥
   unfolding room-end-held
@@ -167,11 +167,11 @@ module _ (p h : List ℕ) (f n : ℕ) (k : Known) (known : Knows h 0 0 k) (F : �
     where
       go : Dec (frame-limit p < x + f) → ⊥
       go (yes lt) = let q : _≡_ {A = ℕ} 36 0 = rw (lt-ltb (frame-limit p) (length (frames-in-use h) + f) (omega (arith, cx .some))) at e in omega arith
-      go (no ge) = nz (rw eb (count-end p h f n (k .low) (k .least) (known .full) x y (cx .all (omega arith)) ey) ∙ e)
+      go (no ge) = nz (rw eb (count-end p h f n (k .low) (k .least) (known .full) x y (cx .all (omega arith)) (cy .all (omega arith))) ∙ e)
 
   module _ (z : b .end ≡ 0) where
-    abbrev knows-now : Knows h 0 0 (counted p h f n (k .low) (k .least) (known .full) x y (exact z) ey)
-    knows-now = count-knows p h f n (k .low) (k .least) (known .full) x y (exact z) ey
+    abbrev knows-now : Knows h 0 0 (counted p h f n (k .low) (k .least) (known .full) x y (cx .all (fits z)) (cy .all (fits z)))
+    knows-now = count-knows p h f n (k .low) (k .least) (known .full) x y (cx .all (fits z)) (cy .all (fits z))
 
     pub count-full : Full h (b .known .low) (b .known .least)
     count-full = reserve-full p h f n _ knows-now b eb

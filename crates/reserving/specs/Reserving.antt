@@ -48,6 +48,10 @@ pub record CountedTo (h : List ℕ) (limit f r : ℕ) : Type 0 where
   pub some : r ≤ length (frames-in-use h)
   pub all : r + f ≤ limit → r ≡ length (frames-in-use h)
 
+-- how many made texts are in use, where f more than so many frames fit below the limit
+pub record TextsCounted (h : List ℕ) (limit f frames r : ℕ) : Type 0 where
+  pub all : frames + f ≤ limit → r ≡ length (texts-in-use h)
+
 -- what is known after reserve; where there is room, with f and n counted in
 pub record Reckons (h : List ℕ) (f n : ℕ) (r : Reserved) : Type 0 where
   pub now : Knows h 0 0 (r .known)

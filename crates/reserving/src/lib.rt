@@ -4,7 +4,7 @@ use allocation::Known;
 ghost use mathlib.Core.Path.{_≡_};
 ghost use Rattle.heap.specs.Closed.{Closed};
 ghost use Rattle.allocation.specs.Known.{FullBelow, TextsFull, Full, Knows};
-ghost use Rattle.reserving.specs.Reserving.{added, Reserves, Sought, CountedTo, Reckons};
+ghost use Rattle.reserving.specs.Reserving.{added, Reserves, Sought, CountedTo, TextsCounted, Reckons};
 
 // The end, 0 where there is room, and what is known then. Where there is room the f frames and t texts are counted in.
 pub struct Reserved {
@@ -95,6 +95,19 @@ fn count_frames(h: &[u32], limit: u32, f: u32) -> u32
     n
 }
 
+// How many made texts are in use. Where f more than so many frames do not fit, that is enough, and none are counted.
+fn count_texts(h: &[u32], limit: u32, f: u32, frames: u32) -> u32
+    ensures { λ r. ⌜ TextsCounted (now (h .entry)) limit f frames r ⌝ }
+{
+    if limit < f {
+        return 0;
+    }
+    if limit - f < frames {
+        return 0;
+    }
+    heap::count_texts(h)
+}
+
 // Collects only where there is no room. The end is that which stands then.
 pub fn reserve(p: &[u32], h: &mut [u32], f: u32, t: u32, k: Known) -> Reserved
     requires { ⌜ Closed (now h) ⌝ }
@@ -106,9 +119,11 @@ pub fn reserve(p: &[u32], h: &mut [u32], f: u32, t: u32, k: Known) -> Reserved
     if a.end == 0 {
         return seek(h, f, t, a);
     }
+    let limit = tables::frame_limit(p);
+    let frames = count_frames(h, limit, f);
     let c = Known {
-        frames: count_frames(h, tables::frame_limit(p), f),
-        texts: heap::count_texts(h),
+        frames: frames,
+        texts: count_texts(h, limit, f, frames),
         low: k.low,
         least: k.least,
     };

@@ -23,7 +23,7 @@ use Rattle.heap.proofs.Laws.{set-self-local, set-program-local, set-position-lo
 use Rattle.heap.proofs.Laws.{set-slot-local, set-slot-tag, set-slot-number, set-slot-count, set-slot-name, set-slot-other-tag, set-slot-other-number}
 use Rattle.heap.proofs.Laws.{add-slot-is, add-slot-local, add-slot-count, add-slot-name, add-slot-tag, add-slot-number, add-slot-old-name, add-slot-old-tag, add-slot-old-number}
 use Rattle.heap.proofs.Laws.{take-frame-local, take-frame-word, take-frame-used, take-frame-count, take-text-local, take-text-word, set-byte-other}
-use Rattle.heap.proofs.Held.{low-frames, leasts, high-frames, used-same, widen, body-used, take-frame-count-one, take-text-used, take-text-count-one}
+use Rattle.heap.proofs.Held.{low-frames, low-texts, high-frames, used-same, widen, body-used, take-frame-count-one, take-text-used, take-text-count-one}
 use Rattle.state_form.specs.declared.Limits.{Limits}
 use Rattle.state_form.specs.Form.{ValueFormed, SlotFormed, FrameFormed, TextFormed, StateWellFormed}
 use Rattle.state_form.proofs.Facts.{NamesThere, write-formed, well-formed-sized}
@@ -133,7 +133,7 @@ module _ (h h′ t : List ℕ) (l : Limits) (a b : ℕ) (c : Local a b h h′) (
         (w .frame f (record { small = u .small; used = sym (header-used f) ∙ u .used }));
     text = λ k u. text-stays h h′ t k (same-text-length k (header-text k)) (w .text k (record { small = u .small; used = sym (same-text-used k (header-text k)) ∙ u .used }));
     frames-few = rw (low-frames c (well-formed-sized w) low .in-use) (w .frames-few);
-    texts-few = rw (leasts c (omega arith) .in-use) (w .texts-few);
+    texts-few = rw (low-texts c (omega arith) .in-use) (w .texts-few);
     position-there = i;
     end = e;
   }
@@ -223,7 +223,7 @@ module _ (h h′ t : List ℕ) (l : Limits) (f : ℕ) (hf : f < 256) (c : Local 
     frame = λ g u. forms g u (ℕ-discrete g f);
     text = λ k u. text-stays h h′ t k (same-text-length k (other-text k)) (w .text k (record { small = u .small; used = sym (same-text-used k (other-text k)) ∙ u .used }));
     frames-few = few;
-    texts-few = rw (leasts c (omega arith) .in-use) (w .texts-few);
+    texts-few = rw (low-texts c (omega arith) .in-use) (w .texts-few);
     position-there = rw (same-position (local-same c 4 5 (λ k lo hi lo′ hi′. omega arith))) (w .position-there);
     end = rw (same-end-mark (local-same c 5 6 (λ k lo hi lo′ hi′. omega arith))) (w .end);
   }

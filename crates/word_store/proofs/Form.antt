@@ -17,7 +17,7 @@ use Rattle.state_form.proofs.Facts.{well-formed-sized}
 use Rattle.state_form.proofs.Kept.{text-stays}
 use Rattle.word_store.specs.Store.{clear-header}
 use Rattle.word_store.specs.Form.{StoreFormed, RestFormed, StateParts}
-use Rattle.word_store.proofs.Header.{low-frame-word, low-frame-used, low-count, low-name, low-tag, low-number, least-word, least-used, clear-local, clear-word}
+use Rattle.word_store.proofs.Header.{low-frame-word, low-frame-used, low-count, low-name, low-tag, low-number, low-text-word, low-text-used, clear-local, clear-word}
 
 pub state-store : {h t : List ℕ} {l : Limits} → StateWellFormed h t l → StoreFormed h t l
 state-store w = record { heap-size = w .heap-size; text-size = w .text-size; flag = w .flag; frame = w .frame; text = w .text }
@@ -62,7 +62,7 @@ module _ {a b : ℕ} {h h′ : List ℕ} (c : Local a b h h′) (low : b ≤ 128
   value-moved tag n v = record {
     formed = v .formed;
     literal = λ e. rw (← s .literals) (v .literal e);
-    made = λ e. let u = v .made e in record { small = u .small; used = least-used c low n ∙ u .used };
+    made = λ e. let u = v .made e in record { small = u .small; used = low-text-used c low n ∙ u .used };
     code = λ e. rw (← s .codes) (v .code e);
     frame = λ e. let u = v .frame e in record { small = u .small; used = low-frame-used c low n ∙ u .used };
   }
@@ -85,7 +85,7 @@ module _ {a b : ℕ} {h h′ : List ℕ} (c : Local a b h h′) (low : b ≤ 128
     text-size = w .text-size;
     flag = λ f lt. rw (low-frame-word c low f) (w .flag f lt);
     frame = λ f u. frame-moved f (w .frame f (record { small = u .small; used = sym (low-frame-used c low f) ∙ u .used }));
-    text = λ k u. text-stays h h′ t k (text-length-word h h′ k (least-word c low k)) (w .text k (record { small = u .small; used = sym (least-used c low k) ∙ u .used }));
+    text = λ k u. text-stays h h′ t k (text-length-word h h′ k (low-text-word c low k)) (w .text k (record { small = u .small; used = sym (low-text-used c low k) ∙ u .used }));
   }
 
 -- as many frames and made texts as there are entries

@@ -63,12 +63,12 @@ module _ {a b : ℕ} {h h′ : List ℕ} (c : Local a b h h′) (low : b ≤ 128
   unfolding slot-value-at
   low-value f i = ap₂ value-of (low-tag f i) (low-number f i)
 
-  pub least-word : (k : ℕ) → text-word h′ k ≡ text-word h k
+  pub low-text-word : (k : ℕ) → text-word h′ k ≡ text-word h k
   unfolding text-word
-  least-word k = low-word (13184 + k) (omega arith)
+  low-text-word k = low-word (13184 + k) (omega arith)
 
-  pub least-used : (k : ℕ) → text-used h′ k ≡ text-used h k
-  least-used k = text-used-word h h′ k (least-word k)
+  pub low-text-used : (k : ℕ) → text-used h′ k ≡ text-used h k
+  low-text-used k = text-used-word h h′ k (low-text-word k)
 
   pub low-slots : (f : ℕ) → slots-held h′ f ≡ slots-held h f
   unfolding slots-held slot-held
@@ -82,14 +82,14 @@ module _ {a b : ℕ} {h h′ : List ℕ} (c : Local a b h h′) (low : b ≤ 128
       λ i. record {
         heap = record { frames = frames i; texts = texts i };
         uses-frame = λ f. low-frame-used f i;
-        uses-text = λ k. least-used k i;
+        uses-text = λ k. low-text-used k i;
       }
     where
       frames : frames-held h′ ≡ frames-held h
       frames = listed-same (frame-held h) (frame-held h′) 256 (λ f lt. ap₂ (λ (u : Bool) (ss : List Slot). new-frame (pick u ss [])) (low-frame-used f) (low-slots f))
 
       texts : texts-held h′ t ≡ texts-held h t
-      texts = listed-same (text-held h t) (text-held h′ t) 256 (λ k lt. text-same h h′ t k (text-length-word h h′ k (least-word k)))
+      texts = listed-same (text-held h t) (text-held h′ t) 256 (λ k lt. text-same h h′ t k (text-length-word h h′ k (low-text-word k)))
 
   pub low-next-frame : next-frame h′ ≡ next-frame h
   unfolding next-frame
@@ -97,7 +97,7 @@ module _ {a b : ℕ} {h h′ : List ℕ} (c : Local a b h h′) (low : b ≤ 128
 
   pub low-next-text : next-text h′ ≡ next-text h
   unfolding next-text
-  low-next-text = λ i. lowest-from (λ k. least-used k i) 256 0
+  low-next-text = λ i. lowest-from (λ k. low-text-used k i) 256 0
 
 -- ---- The cleared header
 

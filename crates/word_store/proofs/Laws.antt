@@ -19,7 +19,7 @@ use Rattle.heap.specs.Held.{slots-held, text-held, heap-held, frames-held, fram
 use Rattle.heap.specs.Closed.{FrameInUse}
 use Rattle.heap.proofs.Lists.{listed-from}
 use Rattle.heap.proofs.Laws.{Local, take-frame-used}
-use Rattle.heap.proofs.Held.{in-slot-from, frame-of-used, slots-length, used-same, leasts, take-frame-frames, take-frame-others, take-frame-texts, add-slot-frames, add-slot-in-use, add-slot-texts}
+use Rattle.heap.proofs.Held.{in-slot-from, frame-of-used, slots-length, used-same, low-texts, take-frame-frames, take-frame-others, take-frame-texts, add-slot-frames, add-slot-in-use, add-slot-texts}
 use Rattle.heap.proofs.Held as held
 use Rattle.mark.specs.Reached.{Reached}
 use Rattle.mark.proofs.ReachLaws.{reached-in-use}
@@ -42,7 +42,7 @@ use Rattle.state_form.proofs.Facts.{well-formed-closed}
 use Rattle.state_form.proofs.Kept.{set-self-formed, set-program-formed, take-frame-formed, add-slot-formed}
 use Rattle.word_store.specs.Store.{clear-header, rooted, claim-frame, write-text, claim-text, collect-rooted, word-store}
 use Rattle.word_store.specs.Form.{StoreFormed, LimitsOf}
-use Rattle.word_store.proofs.Header.{low-frame-used, low-count, low-slots, least-used, low-view, clear-local, clear-take-frame, clear-add-slot, clear-put-slot, clear-take-text, self-in, rooted-local, rooted-self, rooted-program}
+use Rattle.word_store.proofs.Header.{low-frame-used, low-count, low-slots, low-text-used, low-view, clear-local, clear-take-frame, clear-add-slot, clear-put-slot, clear-take-text, self-in, rooted-local, rooted-self, rooted-program}
 use Rattle.word_store.proofs.Form.{wide, store-cleared, cleared-store, wide-cleared, store-sized}
 use Rattle.word_store.proofs.Values.{FrameShown, frame-shown, text-shown, Named, valid-named, formed-valid}
 use Rattle.word_store.proofs.Written.{frame-written, frame-rewritten}
@@ -94,7 +94,7 @@ module _ (l : Limits) (q : Program) (limits : LimitsOf l q) where
     clear-frames = used-same h (clear-header h) (λ g lt. low-frame-used (clear-local h) (omega arith) g)
 
     clear-texts : texts-in-use (clear-header h) ≡ texts-in-use h
-    clear-texts = leasts (clear-local h) (omega arith) .in-use
+    clear-texts = low-texts (clear-local h) (omega arith) .in-use
 
     clear-in-use : (f : ℕ) → FrameInUse h f → FrameInUse (clear-header h) f
     clear-in-use f u = record { small = u .small; used = low-frame-used (clear-local h) (omega arith) f ∙ u .used }
@@ -135,7 +135,7 @@ module _ (l : Limits) (q : Program) (limits : LimitsOf l q) where
           let few = free-texts room in
           let k = next-text h in
           cleared-store (subst (λ (x : List ℕ). StateWellFormed x (write-text t k 0 bs) (wide l)) (sym (clear-take-text h k (length bs)))
-          (text-formed (clear-header h) k (least-used (clear-local h) (omega arith) k ∙ next-text-free h few) (next-text-below h few) t bs short (wide l)
+          (text-formed (clear-header h) k (low-text-used (clear-local h) (omega arith) k ∙ next-text-free h few) (next-text-below h few) t bs short (wide l)
           (store-cleared w) (rw clear-texts few) string))
 
       pub claim-text-claims : TextClaimed (view-held h t) (view-held (claim-text h t bs .heap) (claim-text h t bs .text)) (next-text h) bs

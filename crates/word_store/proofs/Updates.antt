@@ -17,7 +17,7 @@ use Rattle.heap.specs.Held.{slots-held}
 use Rattle.heap.specs.Closed.{ValueFits}
 use Rattle.heap.proofs.Laws.{Local, Same, local-same, same-part, same-self, same-program, same-position, same-end-mark}
 use Rattle.heap.proofs.Laws.{set-self-local, set-self-self, set-program-local, set-program-program, set-position-local, set-position-position, set-end-local, set-end-end}
-use Rattle.heap.proofs.Held.{used-same, leasts}
+use Rattle.heap.proofs.Held.{used-same, low-texts}
 use Rattle.allocation.specs.Allocation.{next-frame, next-text}
 use Rattle.paths.specs.declared.SlotFound.{SlotFound}
 use Rattle.paths.specs.Paths.{slot-from}
@@ -103,7 +103,7 @@ module _ (remaining-from : ℕ → Code Path) (h t : List ℕ) where
     next-frame = low-next-frame (clear-local h) (omega arith);
     next-text = low-next-text (clear-local h) (omega arith);
     frame-count = ap length (used-same h (clear-header h) (λ g lt. low-frame-used (clear-local h) (omega arith) g));
-    text-count = ap length (leasts (clear-local h) (omega arith) .in-use);
+    text-count = ap length (low-texts (clear-local h) (omega arith) .in-use);
   }
 
   -- the parts of the state, one by one

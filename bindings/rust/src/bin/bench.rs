@@ -58,7 +58,7 @@ struct Measure {
 }
 
 const TURN: Duration = Duration::from_millis(20);
-const TURNS: usize = 9;
+const TURNS: usize = 31;
 
 /// Seconds for one call of `work`. What `reset` takes does not count.
 fn time_after<S>(state: &mut S, mut reset: impl FnMut(&mut S), mut work: impl FnMut(&mut S)) -> f64 {

@@ -1,7 +1,8 @@
 use native.Mathlib.Omega.{arith}
 use borrow.Author.Needs.{needs}
 use Rattle.places.specs.Places.{expression-measure, slots-measure}
-use Rattle.checking.proofs.Laws.{expression-readable, frame-slots, frame-falls, expression-single, expression-frame, slots-none, slot-expression, slot-falls, next-slots, next-falls, slots-rest, slots-met}
+use Rattle.checking.proofs.Laws.{expression-readable, frame-slots, frame-falls, expression-single, expression-frame}
+use Rattle.checking.proofs.Laws.{Checking, slots-start, slots-none, slot-expression, slot-falls, slots-met, next-falls, slots-again}
 use Prim.Native.Nat.{ℕ, _<_}
 use borrow.Fn.Kinds.{In}
 use borrow.Fn.PlainCycle.{Measures, is, falls, and}
@@ -48,28 +49,90 @@ abbrev check-slots-below : ℕ → In 3 check-slots-kinds.ps
 check-slots-below t =
     and 3 check-slots-kinds.ps (falls 3 check-slots-kinds.ps _<_ μ-check-slots t) check-slots.Pre
 
+abbrev check-expression-calls : ℕ → check-expression-lts.Claims
+check-expression-calls t = (expression-at-reads.Asked, expression-at-reads.Learnt, check-single-reads.Asked, check-single-reads.Learnt, link-reads.Asked, link-reads.Learnt, check-slots-below t, check-slots.Post)
+
+abbrev check-slots-calls : ℕ → check-slots-lts.Claims
+check-slots-calls t = (check-expression-below t, check-expression.Post, slot-after-reads.Asked, slot-after-reads.Learnt)
+
+check-expression-expression-at-requires :
+    (t : ℕ) → check-expression-lts.Need-expression-at-requires (check-expression-calls t) (check-expression-at t) check-expression.Post
+check-expression-expression-at-requires t c κs = search needs
+
+check-expression-enum-known-e : (t : ℕ) → check-expression-lts.Need-enum-known-e (check-expression-calls t) (check-expression-at t) check-expression.Post
+check-expression-enum-known-e t c = search needs
+
+check-expression-check-single-requires : (t : ℕ) → check-expression-lts.Need-check-single-requires (check-expression-calls t) (check-expression-at t) check-expression.Post
+check-expression-check-single-requires t c κs = search expression-readable
+
+check-expression-returns : (t : ℕ) → check-expression-lts.Need-returns (check-expression-calls t) (check-expression-at t) check-expression.Post
+check-expression-returns t c = search expression-single
+
+check-expression-link-requires : (t : ℕ) → check-expression-lts.Need-link-requires (check-expression-calls t) (check-expression-at t) check-expression.Post
+check-expression-link-requires t c κs = search needs
+
+check-expression-check-slots-requires : (t : ℕ) → check-expression-lts.Need-check-slots-requires (check-expression-calls t) (check-expression-at t) check-expression.Post
+check-expression-check-slots-requires t c κs = (search frame-falls, search frame-slots)
+
+check-expression-returns-2 : (t : ℕ) → check-expression-lts.Need-returns-2 (check-expression-calls t) (check-expression-at t) check-expression.Post
+check-expression-returns-2 t c = search expression-frame
+
+abbrev check-slots-Inv-loop : check-slots-lts.InvT-loop
+check-slots-Inv-loop p l h t from z₀ z = Checking p l h t from z
+
+abbrev check-slots-μ-loop : check-slots-lts.MeasureT-loop
+check-slots-μ-loop p l h t from z₀ z = slots-measure z
+
+check-slots-loop-holds : (t : ℕ) → check-slots-lts.Need-loop-holds (check-slots-calls t) (check-slots-at t) check-slots.Post check-slots-Inv-loop check-slots-μ-loop
+check-slots-loop-holds t c = search slots-start
+
+check-slots-sub-check-expression : (t : ℕ) → check-slots-lts.Need-sub-check-expression (check-slots-calls t) (check-slots-at t) check-slots.Post check-slots-Inv-loop check-slots-μ-loop
+check-slots-sub-check-expression t c = omega arith
+
+check-slots-check-expression-requires : (t : ℕ) → check-slots-lts.Need-check-expression-requires (check-slots-calls t) (check-slots-at t) check-slots.Post check-slots-Inv-loop check-slots-μ-loop
+check-slots-check-expression-requires t c κs = (search slot-falls, search slot-expression)
+
+check-slots-returns : (t : ℕ) → check-slots-lts.Need-returns (check-slots-calls t) (check-slots-at t) check-slots.Post check-slots-Inv-loop check-slots-μ-loop
+check-slots-returns t c = search slots-met
+
+check-slots-sub-slot-after : (t : ℕ) → check-slots-lts.Need-sub-slot-after (check-slots-calls t) (check-slots-at t) check-slots.Post check-slots-Inv-loop check-slots-μ-loop
+check-slots-sub-slot-after t c = omega arith
+
+check-slots-slot-after-requires : (t : ℕ) → check-slots-lts.Need-slot-after-requires (check-slots-calls t) (check-slots-at t) check-slots.Post check-slots-Inv-loop check-slots-μ-loop
+check-slots-slot-after-requires t c κs = search needs
+
+check-slots-loop-less : (t : ℕ) → check-slots-lts.Need-loop-less (check-slots-calls t) (check-slots-at t) check-slots.Post check-slots-Inv-loop check-slots-μ-loop
+check-slots-loop-less t c = search next-falls
+
+check-slots-loop-again : (t : ℕ) → check-slots-lts.Need-loop-again (check-slots-calls t) (check-slots-at t) check-slots.Post check-slots-Inv-loop check-slots-μ-loop
+check-slots-loop-again t c = search slots-again
+
+check-slots-returns-2 : (t : ℕ) → check-slots-lts.Need-returns-2 (check-slots-calls t) (check-slots-at t) check-slots.Post check-slots-Inv-loop check-slots-μ-loop
+check-slots-returns-2 t c = search slots-none
+
 pub +check-expression+check-slots-spec : {M : Type 1} → statement M
 +check-expression+check-slots-spec =
-    close μ-check-expression μ-check-slots (λ t. check-expression-lts.spec
-    (expression-at-reads.Asked, expression-at-reads.Learnt, check-single-reads.Asked, check-single-reads.Learnt, link-reads.Asked, link-reads.Learnt, check-slots-below t, check-slots.Post)
+    close μ-check-expression μ-check-slots (λ t. check-expression-lts.spec (check-expression-calls t)
     (check-expression-at t)
     check-expression.Post
-    (λ c κs. search needs)  -- check-expression-expression-at-requires
-    (λ c. search needs)  -- check-expression-enum-known-e
-    (λ c κs. search expression-readable)  -- check-expression-check-single-requires
-    (λ c. search expression-single)  -- check-expression-returns
-    (λ c κs. search needs)  -- check-expression-link-requires
-    (λ c κs. (search frame-falls, search frame-slots))  -- check-expression-check-slots-requires
-    (λ c. search expression-frame))  -- check-expression-returns-2
-    λ t. check-slots-lts.spec
-    (check-expression-below t, check-expression.Post, slot-after-reads.Asked, slot-after-reads.Learnt, check-slots-below t, check-slots.Post)
+    (check-expression-expression-at-requires t)
+    (check-expression-enum-known-e t)
+    (check-expression-check-single-requires t)
+    (check-expression-returns t)
+    (check-expression-link-requires t)
+    (check-expression-check-slots-requires t)
+    (check-expression-returns-2 t))
+    λ t. check-slots-lts.spec (check-slots-calls t)
     (check-slots-at t)
     check-slots.Post
-    (λ c. search slots-none)  -- check-slots-returns
-    (λ c. omega arith)  -- check-slots-sub-check-expression
-    (λ c κs. (search slot-falls, search slot-expression))  -- check-slots-check-expression-requires
-    (λ c. search slots-met)  -- check-slots-returns-2
-    (λ c. omega arith)  -- check-slots-sub-slot-after
-    (λ c κs. search needs)  -- check-slots-slot-after-requires
-    (λ c κs. (search next-falls, search next-slots))  -- check-slots-check-slots-requires
-    (λ c. search slots-rest)  -- check-slots-returns-3
+    check-slots-Inv-loop
+    check-slots-μ-loop
+    (check-slots-loop-holds t)
+    (check-slots-sub-check-expression t)
+    (check-slots-check-expression-requires t)
+    (check-slots-returns t)
+    (check-slots-sub-slot-after t)
+    (check-slots-slot-after-requires t)
+    (check-slots-loop-less t)
+    (check-slots-loop-again t)
+    (check-slots-returns-2 t)

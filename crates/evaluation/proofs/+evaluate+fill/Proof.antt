@@ -1,9 +1,8 @@
-use Prim.Native.Nat.{ℕ, _<_, _-_, _*_}
-use mathlib.Core.Path.{refl}
 use native.Mathlib.Omega.{arith}
 use borrow.Author.Needs.{needs}
 use Rattle.evaluation.proofs.Laws.{slots-left, evaluate-flat, evaluate-can-fill, evaluate-full, evaluate-falls, evaluate-frame}
-use Rattle.evaluation.proofs.Laws.{fill-none, fill-can-evaluate, fill-falls, fill-can-go-on, fill-full, fill-on-falls, fill-again}
+use Rattle.evaluation.proofs.Laws.{Filling, fill-start, fill-size, fill-text-size, fill-done, fill-can-evaluate, fill-full, fill-falls, fill-less, fill-again}
+use Prim.Native.Nat.{ℕ, _<_, _-_, _*_}
 use borrow.Fn.Kinds.{In}
 use borrow.Fn.PlainCycle.{Measures, is, falls, and}
 use Rattle.evaluation.proofs.evaluate.Reads as evaluate
@@ -42,12 +41,10 @@ abbrev fill-below : ℕ → In 4 fill-kinds.ps
 fill-below t = and 4 fill-kinds.ps (falls 4 fill-kinds.ps _<_ μ-fill t) fill.Pre
 
 abbrev evaluate-calls : ℕ → evaluate-lts.Claims
-evaluate-calls t =
-    (expression-at-reads.Asked, expression-at-reads.Learnt, flat-reads.Asked, flat-reads.Learnt, claim-reads.Asked, claim-reads.Learnt, link-reads.Asked, link-reads.Learnt, fill-below t, fill.Post)
+evaluate-calls t = (expression-at-reads.Asked, expression-at-reads.Learnt, flat-reads.Asked, flat-reads.Learnt, claim-reads.Asked, claim-reads.Learnt, link-reads.Asked, link-reads.Learnt, fill-below t, fill.Post)
 
 abbrev fill-calls : ℕ → fill-lts.Claims
-fill-calls t =
-    (evaluate-below t, evaluate.Post, slot-name-reads.Asked, slot-name-reads.Learnt, add-slot-reads.Asked, add-slot-reads.Learnt, slot-after-reads.Asked, slot-after-reads.Learnt, fill-below t, fill.Post)
+fill-calls t = (evaluate-below t, evaluate.Post, slot-name-reads.Asked, slot-name-reads.Learnt, add-slot-reads.Asked, add-slot-reads.Learnt, slot-after-reads.Asked, slot-after-reads.Learnt)
 
 evaluate-expression-at-requires : (t : ℕ) → evaluate-lts.Need-expression-at-requires (evaluate-calls t) (evaluate-at t) evaluate.Post
 evaluate-expression-at-requires t c κs = search needs
@@ -85,35 +82,44 @@ evaluate-same-length-4 t c = search needs
 evaluate-returns-2 : (t : ℕ) → evaluate-lts.Need-returns-2 (evaluate-calls t) (evaluate-at t) evaluate.Post
 evaluate-returns-2 t c = search evaluate-frame
 
-fill-returns : (t : ℕ) → fill-lts.Need-returns (fill-calls t) (fill-at t) fill.Post
-fill-returns t c = search fill-none
+abbrev fill-Inv-loop : fill-lts.InvT-loop
+fill-Inv-loop p l h₀ t₀ f from low least z₀ h t z = Filling p l f from low least h₀ t₀ h t z
 
-fill-sub-y : (t : ℕ) → fill-lts.Need-sub-y (fill-calls t) (fill-at t) fill.Post
+abbrev fill-μ-loop : fill-lts.MeasureT-loop
+fill-μ-loop p l h₀ t₀ f from low least z₀ h t z = slots-left z
+
+fill-loop-holds : (t : ℕ) → fill-lts.Need-loop-holds (fill-calls t) (fill-at t) fill.Post fill-Inv-loop fill-μ-loop
+fill-loop-holds t c = search fill-start
+
+fill-sub-y : (t : ℕ) → fill-lts.Need-sub-y (fill-calls t) (fill-at t) fill.Post fill-Inv-loop fill-μ-loop
 fill-sub-y t c = omega arith
 
-fill-evaluate-requires : (t : ℕ) → fill-lts.Need-evaluate-requires (fill-calls t) (fill-at t) fill.Post
-fill-evaluate-requires t c κs = (search fill-falls, (search fill-can-evaluate, search needs))
+fill-evaluate-requires : (t : ℕ) → fill-lts.Need-evaluate-requires (fill-calls t) (fill-at t) fill.Post fill-Inv-loop fill-μ-loop
+fill-evaluate-requires t c κs = (search fill-falls, (search fill-can-evaluate, search fill-full))
 
-fill-slot-name-requires : (t : ℕ) → fill-lts.Need-slot-name-requires (fill-calls t) (fill-at t) fill.Post
+fill-slot-name-requires : (t : ℕ) → fill-lts.Need-slot-name-requires (fill-calls t) (fill-at t) fill.Post fill-Inv-loop fill-μ-loop
 fill-slot-name-requires t c κs = search needs
 
-fill-add-slot-requires : (t : ℕ) → fill-lts.Need-add-slot-requires (fill-calls t) (fill-at t) fill.Post
+fill-add-slot-requires : (t : ℕ) → fill-lts.Need-add-slot-requires (fill-calls t) (fill-at t) fill.Post fill-Inv-loop fill-μ-loop
 fill-add-slot-requires t c κs = search needs
 
-fill-slot-after-requires : (t : ℕ) → fill-lts.Need-slot-after-requires (fill-calls t) (fill-at t) fill.Post
+fill-slot-after-requires : (t : ℕ) → fill-lts.Need-slot-after-requires (fill-calls t) (fill-at t) fill.Post fill-Inv-loop fill-μ-loop
 fill-slot-after-requires t c κs = search needs
 
-fill-fill-requires : (t : ℕ) → fill-lts.Need-fill-requires (fill-calls t) (fill-at t) fill.Post
-fill-fill-requires t c κs = (search fill-on-falls, (fill-can-go-on _ _ _ _ _ _ (c .before .before .before .before .before .before .before .before .before .before .before .before .before .before .before .before .before .before .before .before .pre .1 .0) (c .before .before .before .before .before .before .before .before .before .before .before .before .before .before .before .if1 .left) _ refl _ _ _ (c .before .before .before .before .before .before .before .before .before .before .before .before .evaluate .ensures) _ (c .before .before .before .before .before .before .slot-name .ensures) _ (c .before .before .before .before .before .add-slot .ensures) _ (c .slot-after .ensures), fill-full _ _ _ _ _ _ (c .before .before .before .before .before .before .before .before .before .before .before .before .before .before .before .before .before .before .before .before .pre .1 .0) (c .before .before .before .before .before .before .before .before .before .before .before .before .before .before .before .if1 .left) _ refl _ _ _ (c .before .before .before .before .before .before .before .before .before .before .before .before .evaluate .ensures) _ (c .before .before .before .before .before .before .slot-name .ensures) _ (c .before .before .before .before .before .add-slot .ensures) _ (c .slot-after .ensures) _ _ (c .before .before .before .before .before .before .before .before .before .before .before .before .before .before .before .before .before .before .before .before .pre .1 .1)))
+fill-loop-less : (t : ℕ) → fill-lts.Need-loop-less (fill-calls t) (fill-at t) fill.Post fill-Inv-loop fill-μ-loop
+fill-loop-less t c = fill-less _ _ _ _ _ _ _ _ _ _ _ (c .before .before .before .before .before .before .before .before .before .before .before .before .before .before .loop .inv) (c .before .before .before .before .before .before .before .before .before .before .before .before .before .loop-test .taken) _ _ _ (c .before .before .before .before .before .before .before .before .before .before .evaluate .ensures) _ (c .before .before .before .before .slot-name .ensures) _ (c .before .before .before .add-slot .ensures) _ (c .slot-after .ensures)
 
-fill-same-length : (t : ℕ) → fill-lts.Need-same-length (fill-calls t) (fill-at t) fill.Post
-fill-same-length t c = search needs
+fill-loop-again : (t : ℕ) → fill-lts.Need-loop-again (fill-calls t) (fill-at t) fill.Post fill-Inv-loop fill-μ-loop
+fill-loop-again t c = fill-again _ _ _ _ _ _ _ _ _ _ _ (c .before .before .before .before .before .before .before .before .before .before .before .before .before .before .loop .inv) (c .before .before .before .before .before .before .before .before .before .before .before .before .before .loop-test .taken) _ _ _ (c .before .before .before .before .before .before .before .before .before .before .evaluate .ensures) _ (c .before .before .before .before .slot-name .ensures) _ (c .before .before .before .add-slot .ensures) _ (c .slot-after .ensures)
 
-fill-same-length-2 : (t : ℕ) → fill-lts.Need-same-length-2 (fill-calls t) (fill-at t) fill.Post
-fill-same-length-2 t c = search needs
+fill-same-length : (t : ℕ) → fill-lts.Need-same-length (fill-calls t) (fill-at t) fill.Post fill-Inv-loop fill-μ-loop
+fill-same-length t c = search fill-size
 
-fill-returns-2 : (t : ℕ) → fill-lts.Need-returns-2 (fill-calls t) (fill-at t) fill.Post
-fill-returns-2 t c = search (fill-again, c .before .before .before .before .before .before .before .before .before .before .before .before .before .before .before .before .before .before .before .before .before .before .before .before .before .pre .1 .0, c .before .before .before .before .before .before .before .before .before .before .before .before .before .before .before .before .before .before .before .before .if1 .left, c .before .before .before .before .before .before .before .before .before .before .before .before .before .before .before .before .before .evaluate .ensures, c .before .before .before .before .before .before .before .before .before .before .before .slot-name .ensures, c .before .before .before .before .before .before .before .before .before .before .add-slot .ensures, c .before .before .before .before .before .slot-after .ensures, c .before .before .before .before .fill .ensures)
+fill-same-length-2 : (t : ℕ) → fill-lts.Need-same-length-2 (fill-calls t) (fill-at t) fill.Post fill-Inv-loop fill-μ-loop
+fill-same-length-2 t c = search fill-text-size
+
+fill-returns : (t : ℕ) → fill-lts.Need-returns (fill-calls t) (fill-at t) fill.Post fill-Inv-loop fill-μ-loop
+fill-returns t c = search fill-done
 
 pub +evaluate+fill-spec : {M : Type 1} → statement M
 +evaluate+fill-spec = close μ-evaluate μ-fill (λ t. evaluate-lts.spec (evaluate-calls t)
@@ -134,13 +140,16 @@ pub +evaluate+fill-spec : {M : Type 1} → statement M
     λ t. fill-lts.spec (fill-calls t)
     (fill-at t)
     fill.Post
-    (fill-returns t)
+    fill-Inv-loop
+    fill-μ-loop
+    (fill-loop-holds t)
     (fill-sub-y t)
     (fill-evaluate-requires t)
     (fill-slot-name-requires t)
     (fill-add-slot-requires t)
     (fill-slot-after-requires t)
-    (fill-fill-requires t)
+    (fill-loop-less t)
+    (fill-loop-again t)
     (fill-same-length t)
     (fill-same-length-2 t)
-    (fill-returns-2 t)
+    (fill-returns t)
