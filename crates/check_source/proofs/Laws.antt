@@ -3,7 +3,7 @@ use mathlib.Core.Path.{_≡_, refl, sym, ap, _∙_}
 use mathlib.Core.Bool.{Bool, true, false, not, _&&_, true≢false, false≢true}
 use mathlib.Core.List.{List, [], _∷_}
 use mathlib.Core.Option.{Option, none, some}
-use Prim.Native.Nat.{ℕ, zero, suc, _+_, _<_, _≤_}
+use Prim.Native.Nat.{ℕ, zero, suc, _<_, _≤_}
 use native.Mathlib.Omega.{arith}
 use lib.Dec.{leb, ltb}
 use lib.ListN.{length}
@@ -24,7 +24,7 @@ use Rattle.sweep.specs.Decides.{Short, Decides}
 use Rattle.grammar.specs.Runs.{OneFrame}
 use Rattle.slots.specs.Own.{bad-tree}
 use Rattle.start.specs.Find.{HasStart}
-use Rattle.limits.specs.Limits.{CountsNames, misplaced-tree, limit-tree, far-tree, frames-tree}
+use Rattle.limits.specs.Limits.{misplaced-tree, limit-tree, far-tree, frames-tree}
 use Rattle.check_source.specs.Numbers.{lengths, lengths-refusal, limits-refusal, Means, Numbered, KeptAt}
 
 -- ---- 1 to 3
@@ -207,9 +207,6 @@ module _ (s : List ℕ) (F n : ℕ) (e : n ≡ tokens-refusal (tokens class s)) 
     source-means q r m = late r (tokens class s) refl e (λ ts g. seven ts F r (parse (symbols ts)) refl (sym q ∙ h .is ts g) (λ ss f. m .is ts ss g f))
 
 -- ---- The names kept
-
-pub counts-names : (s b e : List ℕ) (n : ℕ) → Kept s b e n → CountsNames s n
-counts-names s b e n k = record { is = k .many }
 
 pub kept-not : (r : ℕ) (s b e : List ℕ) (n : ℕ) → (r ≡ 0 → ⊥) → KeptAt r s b e n
 kept-not r s b e n f = record { is = λ z. absurd (f z) }

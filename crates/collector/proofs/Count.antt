@@ -6,7 +6,6 @@ use mathlib.Core.Bool.{Bool, true, false}
 use native.Mathlib.Omega.{arith}
 use lib.ListN.{length, getD}
 use borrow.Author.Tests.{eq-eqb, ne-eqb}
-use Rattle.words.specs.Words.{pick}
 use Rattle.heap.specs.Lists.{passing}
 use Rattle.heap.proofs.Loops.{Tally, tally-yes, tally-no}
 use Rattle.collector.specs.Collect.{marked-from}

@@ -1,40 +1,25 @@
 -- Laws of the names kept: the number of a name, the loop that keeps them, and the name table as it is written. Assumes nothing.
 use mathlib.Core.Path.{_≡_, refl, sym, ap, _∙_}
-use mathlib.Core.Bool.{Bool, true, false, _&&_, _||_, not, true≢false, false≢true}
+use mathlib.Core.Bool.{Bool, true, false}
 use mathlib.Core.List.{List, [], _∷_, _++_}
-use mathlib.Core.Option.{some}
 use Prim.Native.Nat.{ℕ, zero, suc, _+_, _-_, _*_, _<_, _≤_}
 use native.Mathlib.Numerals.{add-one, unary-clauses}
 use native.Mathlib.Omega.{arith}
 use native.Mathlib.Nat.{min-le-right}
-use native.Mathlib.Decide.{decLt}
-use lib.Dec.{eqb, ltb}
-use lib.ListN.{length, length-append, drop, getD, take, drop-of-length-le, length-take, length-drop}
-use lib.Seq.{drop-cons, drop-length}
-use types.Run.{OneOf, miss}
-use denote.Enum.Declared.{tagOf}
-use borrow.Author.Tests.{eq-eqb, ne-eqb, eqb-true, eqb-false}
-use Rattle.framed.specs.Common.{if_then_else_, any, same}
-use Rattle.framed.specs.Bytes.{class}
-use Rattle.framed.specs.Tokens.{Token, tokens, token}
-use Rattle.framed.specs.Symbols.{names-after, name-table, number-in}
-use Rattle.source.specs.Positions.{rest, part}
+use lib.ListN.{length, drop, getD, drop-of-length-le, length-take, length-drop}
+use lib.Seq.{drop-cons}
+use Rattle.framed.specs.Common.{if_then_else_, same}
+use Rattle.framed.specs.Tokens.{token}
+use Rattle.framed.specs.Symbols.{number-in}
+use Rattle.source.specs.Positions.{part}
 use Rattle.words.specs.Words.{word, set-word}
-use Rattle.words.proofs.Laws.{set-size, word-other, word-same}
-use Rattle.token.specs.Reading.{token-of, TokenAt, Spot}
-use Rattle.token.specs.declared.TokenRead.{TokenRead}
-use Rattle.token.proofs.TokenRead.{the-type}
-use Rattle.token.proofs.KindNumbers.{kind-is}
-use Rattle.token.proofs.Answers.{spot-of}
+use Rattle.words.proofs.Laws.{set-size}
 use Rattle.sweep.specs.Decides.{Short}
-use Rattle.sweep.proofs.Loop as Loop
-use Rattle.sweep.proofs.Loop.{Going, Gives, go-start, go-end, go-none, go-done, go-again, go-early}
-use Rattle.shapes.proofs.Names.{same-equal, same-self}
+use Rattle.shapes.proofs.Names.{same-equal}
 use Rattle.names.specs.Kept.{table-of, Numbered}
 use Rattle.names.proofs.Laws.{table-length, number-last, number-stays}
 use Rattle.table_updates.specs.Updates.{set-name-length, set-name-byte}
 use Rattle.emission.specs.Emit.{write-name-bytes, write-names}
-use Rattle.names.proofs.Laws.{grows, names-other, names-name}
 use Rattle.emit_names.specs.Table.{write-kept}
 
 -- ---- The number of a name

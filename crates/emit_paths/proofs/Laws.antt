@@ -2,7 +2,7 @@
 use mathlib.Core.Path.{_≡_, refl, sym, ap, _∙_}
 use mathlib.Core.Bool.{Bool, true, false}
 use mathlib.Core.List.{List, [], _∷_, _++_}
-use Prim.Native.Nat.{ℕ, zero, suc, _+_, _-_, _<_, _≤_}
+use Prim.Native.Nat.{ℕ, suc, _+_, _-_, _<_, _≤_}
 use native.Mathlib.Omega.{arith}
 use Rattle.framed.specs.Common.{if_then_else_}
 use Rattle.framed.specs.Tree.{Written}
@@ -12,12 +12,10 @@ use Rattle.emit_steps.specs.declared.Place.{Place}
 use lib.ListN.{length, length-append, take, drop, getD, drop-of-length-le}
 use lib.Seq.{drop-cons, length-take-le, getD-take, take-take}
 use native.Mathlib.Numerals.{add-one}
-use Rattle.framed.specs.Bytes.{class}
-use Rattle.framed.specs.Tokens.{Token, Fixed, Tokens⊢}
+use Rattle.framed.specs.Tokens.{Fixed}
 use Rattle.framed.specs.Symbols.{Symbol, number-in}
 use Rattle.source.specs.Positions.{part}
 use Rattle.framed.specs.Grammar.{Names⊢, Ups⊢, Path⊢}
-use Rattle.words.specs.Words.{set-word}
 use Rattle.words.proofs.Laws.{set-size}
 use Rattle.token.specs.Reading.{fixed-kind}
 use Rattle.sweep.specs.Kinds.{front-kind, kind-of}
@@ -25,9 +23,8 @@ use Rattle.grammar.specs.Runs.{Sees}
 use Rattle.grammar.specs.declared.Seen.{Seen}
 use Rattle.names.specs.Kept.{table-of}
 use Rattle.table_updates.specs.Updates.{set-path-name}
-use Rattle.shapes.specs.Numbers.{Numbers, more-names}
 use Rattle.emission.specs.Emit.{Emitting, emitting, emit-path, write-path}
-use Rattle.emit_steps.specs.Steps.{numbers, one-more, go-to, take-path-name, place-of, PassTwo}
+use Rattle.emit_steps.specs.Steps.{numbers, go-to, take-path-name, place-of, PassTwo}
 use Rattle.emit_steps.specs.declared.Next.{Next}
 use Rattle.emit_steps.proofs.Laws.{more-one}
 use Rattle.emit_paths.specs.Emits.{Ahead, Small, Emitted, Emits, NamesHere, NoUp, UpsDone, UpsRead, Stays, HolderDone, PlaceOk, PathHere, UpHere, path-emitted}

@@ -1,10 +1,9 @@
 -- What each way through evaluate and fill gives. Assumes nothing.
 use Prim.Native.Nat.{ℕ, zero, suc, _+_, _-_, _*_, _≤_, _<_}
-use mathlib.Core.Path.{_≡_, refl, _∙_, ap, ap₂, sym}
+use mathlib.Core.Path.{_≡_, refl, _∙_, ap, sym}
 use mathlib.Core.List.{List, [], _∷_}
 use native.Mathlib.Omega.{arith}
 use native.Mathlib.Decide.{decLe, ℕ-discrete}
-use lib.Dec.{eqb, leb}
 use lib.ListN.{length}
 use types.Run.{OneOf, miss}
 use denote.Enum.Declared.{tagOf}
@@ -17,21 +16,18 @@ use Rattle.tables.specs.declared.ExpressionEntry.{ExpressionEntry}
 use Rattle.tables.proofs.ExpressionEntry.{the-type}
 use Rattle.tables.specs.Entries.{expression-at}
 use Rattle.tables.specs.Fields.{expressions, link, slot-name, slot-after}
-use Rattle.program_form.specs.WellFormed.{WellFormed}
 use Rattle.program_form.specs.Sound.{SlotPlace, Sound}
 use Rattle.program_form.proofs.Decides.{sound}
-use Rattle.trees.specs.Held as trees
 use Rattle.trees.specs.Held.{expression-held, slots-held, OneLevel}
 use Rattle.trees.proofs.Held.{one-level-held, frame-held}
 use Rattle.heap.specs.Words.{self-held, program-held, take-frame, add-slot}
-use Rattle.heap.specs.Held.{frames-in-use, texts-in-use}
-use Rattle.heap.specs.Closed.{FrameInUse}
+use Rattle.heap.specs.Held.{frames-in-use}
 use Rattle.allocation.specs.Allocation.{next-frame}
 use Rattle.allocation.specs.Known.{Full}
 use Rattle.bounded.specs.Bounded.{Produced, evaluate, fill}
 use Rattle.word_store.specs.Store.{Memories, word-store, claim-frame}
 use Rattle.word_store.specs.State.{store-held}
-use Rattle.producing.specs.Producing.{HasRoom, Writable, Leaves, made}
+use Rattle.producing.specs.Producing.{Leaves, made}
 use Rattle.producing.proofs.Leaves.{leaves-none, leaves-both}
 use Rattle.evaluation.specs.Evaluation.{Claims, strings, CanEvaluate, Flat, Evaluates, CanFill, Fills}
 use Rattle.evaluation.proofs.Fits.{fits-frame}

@@ -1,5 +1,5 @@
 -- Expressions that are no frame literals: what the words hold of them, and each way through `flat`. Assumes nothing.
-use Prim.Native.Nat.{ℕ, zero, suc, _+_, _≤_, _<_}
+use Prim.Native.Nat.{ℕ, zero, suc, _≤_, _<_}
 use mathlib.Core.Path.{_≡_, refl, _∙_, ap, sym, subst}
 use mathlib.Core.List.{List, [], _∷_}
 use mathlib.Core.Bool.{Bool, true, false, not}
@@ -11,12 +11,11 @@ use types.Run.{OneOf, miss}
 use denote.Enum.Declared.{tagOf}
 use Rattle.words.specs.Words.{pick}
 use Rattle.framed.specs.declared.Value.{Value}
-use Rattle.framed.specs.Values.{truth, bit, Heap}
-use Rattle.framed.specs.Tokens.{Operator}
-use Rattle.framed.specs.Tree.{Base, Expression}
+use Rattle.framed.specs.Values.{truth, bit}
+use Rattle.framed.specs.Tree.{Expression}
 use Rattle.framed.specs.Paths.{Path}
 use Rattle.framed.specs.Machine as M
-use Rattle.framed.specs.Machine.{Result, gives, ends, base-value, is-join, frame-literals, join-signs}
+use Rattle.framed.specs.Machine.{Result, gives, ends, is-join, frame-literals, join-signs}
 use Rattle.tables.specs.declared.ExpressionEntry.{ExpressionEntry}
 use Rattle.tables.proofs.ExpressionEntry.{the-type}
 use Rattle.tables.specs.Entries.{expression-of, expression-at}
@@ -28,7 +27,7 @@ use Rattle.trees.specs.Held as held
 use Rattle.trees.specs.Held.{base-held, expression-held, OneLevel}
 use Rattle.trees.proofs.Held.{one-level-held, not-held, operation-held}
 use Rattle.heap.specs.Words.{self-held, program-held}
-use Rattle.heap.specs.Held.{frames-held, texts-held, heap-held}
+use Rattle.heap.specs.Held.{texts-held, heap-held}
 use Rattle.texts.specs.Literals.{literals-held}
 use Rattle.operands.specs.Operands.{operand-value}
 use Rattle.operands.proofs.Literals.{same-literals}
@@ -39,7 +38,7 @@ use Rattle.bounded.specs.Bounded.{value-given, Produced, produce, evaluate, hea
 use Rattle.word_store.specs.Store.{Memories, word-store}
 use Rattle.word_store.specs.State.{store-held}
 use Rattle.producing.specs.Producing as producing
-use Rattle.producing.specs.Producing.{HasRoom, Writable, Leaves, made, read-entry, read-value, CanProduce}
+use Rattle.producing.specs.Producing.{Writable, made, read-entry, read-value, CanProduce}
 use Rattle.producing.proofs.Leaves.{leaves-none}
 use Rattle.producing.proofs.Operated.{Modest, an-end, operated-modest}
 use Rattle.heap.specs.Closed.{ValueFits}

@@ -1,18 +1,17 @@
 -- A frame claimed and a slot pushed over the words; what the store shows. Assumes nothing.
-use Prim.Native.Nat.{ℕ, suc, _+_, _≤_, _<_}
-use mathlib.Core.Path.{_≡_, refl, _∙_, ap, sym}
+use Prim.Native.Nat.{ℕ, _≤_, _<_}
+use mathlib.Core.Path.{_≡_, _∙_, ap, sym}
 use mathlib.Core.List.{List}
 use mathlib.Core.Bool.{true≢false}
 use native.Mathlib.Omega.{arith}
 use native.Mathlib.Decide.{decLt}
 use lib.ListN.{length}
 use borrow.Author.Tests.{le-leb}
-use Rattle.words.specs.Words.{pick}
 use Rattle.framed.specs.declared.Value.{Value}
 use Rattle.framed.specs.Tree.{Code}
-use Rattle.framed.specs.Values.{Frame, Heap}
+use Rattle.framed.specs.Values.{Heap}
 use Rattle.heap.specs.Words.{self-held, program-held, frame-used, slot-count-at, take-frame, add-slot}
-use Rattle.heap.specs.Held.{frames-held, texts-held, heap-held, frames-in-use, texts-in-use}
+use Rattle.heap.specs.Held.{frames-held, heap-held, frames-in-use}
 use Rattle.heap.specs.Closed.{Sized, FrameInUse}
 use Rattle.heap.proofs.Laws.{Same, same-part, same-self, same-program, take-frame-used}
 use Rattle.heap.proofs.Held.{take-frame-sized, take-frame-others, take-frame-count-one, take-frame-texts, add-slot-sized, add-slot-in-use, add-slot-texts}
@@ -21,11 +20,10 @@ use Rattle.allocation.proofs.Laws.{next-frame-below, next-frame-free}
 use Rattle.bounded.specs.Views.{View}
 use Rattle.bounded.specs.Bounded.{Bounded, heap-in}
 use Rattle.word_store.specs.Store.{Memories, word-store, claim-frame}
-use Rattle.word_store.specs.State.{store-held, state-held, HeldAfter, HeldRead}
-use Rattle.word_store.proofs.Updates.{KeepsHeader, keeps-claim, keeps-add, held-read, held-after}
-use Rattle.producing.specs.Producing.{HeaderKept, HasRoom, Leaves}
+use Rattle.word_store.specs.State.{store-held, state-held}
+use Rattle.word_store.proofs.Updates.{keeps-claim, keeps-add, held-read, held-after}
+use Rattle.producing.specs.Producing.{HeaderKept, Leaves}
 use Rattle.producing.proofs.Leaves.{header-kept, leaves-none, in-use-stay, texts-stay}
-use Rattle.evaluation.specs.Evaluation.{Claims}
 
 -- ---- What the store shows
 

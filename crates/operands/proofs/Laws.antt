@@ -25,7 +25,7 @@ use Rattle.paths.specs.declared.SlotFound.{SlotFound}
 use Rattle.paths.specs.declared.Fetched.{Fetched}
 use Rattle.paths.specs.Paths.{slot-from, fetched, path-held}
 use Rattle.paths.proofs.Laws.{get-past, get-free, get-missing, get-found, Walk, walk-start, walk-done, walk-undefined, walk-again}
-use Rattle.trees.specs.Trees.{Readers, trees, levels, one-level, base-tree}
+use Rattle.trees.specs.Trees.{Readers, levels, one-level, base-tree}
 use Rattle.trees.specs.Held.{base-held}
 use Rattle.trees.proofs.Held.{trees-one}
 use Rattle.operands.specs.Operands.{found-in, operand-value}

@@ -1,7 +1,7 @@
 -- What each way through the functions gives. Assumes nothing.
-use Prim.Native.Nat.{ℕ, _+_, _*_, _≤_, _<_}
-use mathlib.Core.Path.{_≡_, refl, _∙_, ap, sym}
-use mathlib.Core.Bool.{Bool, true, false, not}
+use Prim.Native.Nat.{ℕ, _+_, _*_, _≤_}
+use mathlib.Core.Path.{_≡_, _∙_}
+use mathlib.Core.Bool.{Bool, true, false}
 use mathlib.Core.List.{List, [], _∷_}
 use native.Mathlib.Omega.{arith}
 use lib.IntN.{ℤ, pos}
@@ -15,34 +15,32 @@ use Rattle.framed.specs.declared.Value.{Value}
 use Rattle.framed.specs.declared.Text.{Text}
 use Rattle.framed.specs.Values.{truth, bit}
 use Rattle.framed.specs.Machine as M
-use Rattle.framed.specs.Machine.{Result, gives, ends, defined, is-join}
+use Rattle.framed.specs.Machine.{Result, gives, defined, is-join}
 use Rattle.tables.specs.declared.ExpressionEntry.{ExpressionEntry}
 use Rattle.tables.proofs.ExpressionEntry.{the-type}
 use Rattle.tables.specs.Entries.{expression-at}
-use Rattle.tables.specs.Fields.{literals, literal-length}
-use Rattle.program_form.specs.WellFormed.{WellFormed}
-use Rattle.heap.specs.Words.{text-word, text-length, take-text}
+use Rattle.tables.specs.Fields.{literals}
+use Rattle.heap.specs.Words.{text-length, take-text}
 use Rattle.heap.specs.Held.{texts-held}
-use Rattle.heap.specs.Closed.{Sized}
 use Rattle.allocation.specs.Allocation.{next-text}
 use Rattle.paths.specs.declared.Fetched.{Fetched}
 use Rattle.paths.specs.Paths.{fetched}
 use Rattle.texts.specs.Literals.{literals-held}
-use Rattle.texts.specs.Texts.{LiteralsInside, TextsInside, Readable}
+use Rattle.texts.specs.Texts.{Readable}
 use Rattle.splice.specs.Splice.{splice}
 use Rattle.shown.specs.Shown.{shown-size}
 use Rattle.joining.specs.Joining.{join-bytes, join-written}
 use Rattle.joining.proofs.Laws.{join-length}
-use Rattle.bounded.specs.Operations.{Product, number, text, operated}
-use Rattle.bounded.specs.Bounded.{value-given, Produced, produce}
-use Rattle.word_store.specs.Store.{Memories, word-store}
+use Rattle.bounded.specs.Operations.{Product, text, operated}
+use Rattle.bounded.specs.Bounded.{value-given, produce}
+use Rattle.word_store.specs.Store.{word-store}
 use Rattle.word_store.specs.State.{store-held}
 use Rattle.operands.specs.Operands.{operand-value}
 use Rattle.operators.specs.declared.Operated.{Operated}
 use Rattle.operators.specs.Operators as operators
 use Rattle.operators.specs.Operators.{operator-of, operation}
-use Rattle.producing.specs.Producing.{HasRoom, Writable, Leaves, made, read-entry, read-value, CanJoin, Joins, CanProduce, Produces, operation-held, Operates}
-use Rattle.producing.proofs.Operated.{Modest, an-end, a-number, a-text, operated-modest}
+use Rattle.producing.specs.Producing.{HasRoom, Writable, made, read-entry, read-value, CanJoin, Joins, CanProduce, Produces, operation-held, Operates}
+use Rattle.producing.proofs.Operated.{Modest, a-text, operated-modest}
 use Rattle.producing.proofs.Leaves.{leaves-none, text-store, text-next, text-leaves}
 
 -- ---- given, read

@@ -1,16 +1,14 @@
 -- What is left by writing nothing, by one after another, and by a new made text. Assumes nothing.
-use Prim.Native.Nat.{ℕ, suc, _+_, _*_, _≤_, _<_}
+use Prim.Native.Nat.{ℕ, _+_, _*_, _≤_, _<_}
 use mathlib.Core.Path.{_≡_, refl, _∙_, ap, sym}
 use mathlib.Core.List.{List}
 use mathlib.Core.Bool.{true≢false}
 use native.Mathlib.Omega.{arith}
 use lib.ListN.{length}
 use lib.Seq.{sets}
-use Rattle.framed.specs.declared.Value.{Value}
-use Rattle.framed.specs.declared.Text.{Text}
 use Rattle.framed.specs.Tree.{Code}
 use Rattle.heap.specs.Words.{text-used, take-text}
-use Rattle.heap.specs.Held.{texts-held, frames-in-use, texts-in-use}
+use Rattle.heap.specs.Held.{frames-in-use, texts-in-use}
 use Rattle.heap.specs.Closed.{Sized, FrameInUse, TextInUse}
 use Rattle.heap.proofs.Held.{frame-counted, text-counted, take-text-frames, take-text-others, take-text-sized, take-text-count-one}
 use Rattle.allocation.specs.Allocation.{next-text}
@@ -18,8 +16,8 @@ use Rattle.allocation.proofs.Laws.{next-text-below, next-text-free}
 use Rattle.splice.specs.Splice.{splice}
 use Rattle.splice.proofs.Laws.{splice-length}
 use Rattle.bounded.specs.Bounded.{Bounded}
-use Rattle.word_store.specs.Store.{Memories, word-store, write-text}
-use Rattle.word_store.specs.State.{store-held, state-held, HeldAfter, HeldRead}
+use Rattle.word_store.specs.Store.{Memories, word-store}
+use Rattle.word_store.specs.State.{store-held, state-held}
 use Rattle.word_store.proofs.Updates.{KeepsHeader, keeps-text, held-read, held-after}
 use Rattle.word_store.proofs.Texts.{write-stores}
 use Rattle.producing.specs.Producing.{HeaderKept, HasRoom, Leaves}

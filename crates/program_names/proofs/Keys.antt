@@ -9,7 +9,7 @@ use native.Mathlib.Decide.{ℕ-discrete, decLt}
 use lib.Dec.{eqb, ltb, leb}
 use lib.ListN.{length, replicate}
 use borrow.Author.Tests.{eqb-true, le-leb, lt-leb, leb-true, lt-ltb, le-ltb}
-use Rattle.words.specs.Words.{word, set-word, all-below}
+use Rattle.words.specs.Words.{word, set-word}
 use Rattle.words.proofs.Laws.{Upto, upto-start, upto-again, upto-done, upto-end, all-means, all-if, set-size, word-other, word-same}
 use Rattle.tables.proofs.Bools.{split2, both-not, not-eq}
 use Rattle.tables.specs.Fields.{names, name-length, name-byte}

@@ -49,10 +49,6 @@ module _ (h : List ℕ) where
   pub lowest-text-full : (x : ℕ) → x ≡ next-text h → TextsFull h x
   lowest-text-full x e = rw e (next-text-full h)
 
-  pub seek-both : (r : Reserved) (x y : ℕ) → FullBelow h x → TextsFull h y
-      → Sought h r (record { end = r .end; known = record { frames = r .known .frames; texts = r .known .texts; low = x; least = y } })
-  seek-both r x y a b = record { end = refl; frames = refl; texts = refl; full = record { frames = a; texts = b } }
-
 -- ---- count_frames
 
 -- what passes below i passes below more

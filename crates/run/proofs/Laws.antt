@@ -4,7 +4,6 @@ use mathlib.Core.Path.{_≡_, refl, _∙_, ap, sym, subst}
 use mathlib.Core.Bool.{Bool, true, false, not}
 use mathlib.Core.List.{List, [], _∷_}
 use native.Mathlib.Omega.{arith}
-use lib.Dec.{eqb}
 use lib.ListN.{length}
 use borrow.Author.Tests.{eq-eqb, ne-eqb, not-true, not-false}
 use types.Run.{OneOf, miss}
@@ -12,7 +11,6 @@ use denote.Enum.Declared.{tagOf}
 use Rattle.step.proofs.Outcome.{the-type}
 use mir.Syntax.{w64}
 use mir.Val.{Fits}
-use Rattle.words.specs.Words.{pick}
 use Rattle.framed.specs.declared.Stop.{Stop}
 use Rattle.framed.specs.declared.RunReport.{RunReport}
 use Rattle.framed.specs.declared.RunAnswer.{RunAnswer}

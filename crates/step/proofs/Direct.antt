@@ -10,7 +10,6 @@ use Rattle.tables.specs.Entries.{instruction-at}
 use Rattle.heap.specs.Words.{set-end-mark}
 use Rattle.allocation.specs.declared.Known.{Known}
 use Rattle.allocation.specs.Known.{Knows}
-use Rattle.reserving.specs.declared.Reserved.{Reserved}
 use Rattle.reserving.specs.Reserving.{Reserves, Reckons}
 use Rattle.commit.specs.Words.{WordsFit}
 use Rattle.direct.specs.Direct as direct

@@ -4,12 +4,12 @@ use mathlib.Core.List.{List}
 use mathlib.Core.Logic.{_≢_}
 use native.Mathlib.Omega.{arith}
 use native.Mathlib.Decide.{ℕ-discrete, decLe}
-use Prim.Native.Nat.{ℕ, _+_, _*_, _/_, _%_, _<_, _≤_}
+use Prim.Native.Nat.{ℕ, _/_, _%_, _<_, _≤_}
 use lib.ListN.{length, set, replicate, length-replicate, getD-replicate}
 use Rattle.framed.specs.Bytes.{class}
 use Rattle.words.specs.Words.{word, set-word}
 use Rattle.words.proofs.Laws.{word-past, word-other, word-same, set-size}
-use Rattle.token.specs.Reading.{TokenAt, Within, Spot}
+use Rattle.token.specs.Reading.{TokenAt, Within}
 use Rattle.token.specs.declared.TokenRead.{TokenRead}
 use Rattle.token_cache.specs.Cache.{packed, unpacked, Small, Cached, CanStore}
 
