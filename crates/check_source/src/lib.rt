@@ -84,7 +84,7 @@ fn source_refusal(
     s: &[u8],
     begins: &mut [usize],
     ends: &mut [usize],
-    hints: &mut [u8; 1024],
+    hints: &mut [u8; 4096],
     count: &mut u32,
     f: u32,
 ) -> u32
@@ -138,7 +138,7 @@ pub fn check(
     s: &[u8],
     begins: &mut [usize],
     ends: &mut [usize],
-    hints: &mut [u8; 1024],
+    hints: &mut [u8; 4096],
     count: &mut u32,
     f: u32,
     t: u32,

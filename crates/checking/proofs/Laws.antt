@@ -283,6 +283,16 @@ module _ (p l h t : List ℕ) (from : ℕ) where
       pub slots-met : (b : ℕ) → b ≡ expression-end p l h t (z - 1) → (b ≡ 0 → ⊥) → b ≡ slots-end p l h t from
       slots-met b eb met = met-here p l h t z (k .at) ne b eb met ∙ k .rest
 
+      module _ (q b : ℕ) (eq : q ≡ expression-kind p (z - 1)) (lt : q < 5) (eb : b ≡ end-of (operand-value p h (z - 1))) where
+        slot-base : b ≡ expression-end p l h t (z - 1)
+        slot-base =
+            let there = slot-expression .there in
+            eb
+            ∙ end-base p l h t (z - 1) slot-expression (base-held p (z - 1)) refl (one-level-held p l (k .at .memories .program) .as-base (z - 1) there (omega arith))
+
+        pub base-met : (b ≡ 0 → ⊥) → b ≡ slots-end p l h t from
+        base-met met = slots-met b slot-base met
+
       module _ (n : ℕ) (next : n ≡ slot-after p (z - 1)) where
         pub next-falls : slots-measure n < slots-measure z
         next-falls = next-below p l h t z (k .at) ne n next (slots-measure z) refl
@@ -293,6 +303,9 @@ module _ (p l h t : List ℕ) (from : ℕ) where
           fewer = let a = next-falls in let c = k .fewer in omega arith;
           rest = rest-is p l h t z (k .at) ne n next b (slots-end p l h t n) eb e refl ∙ k .rest;
         }
+
+        pub base-again : (q b : ℕ) → q ≡ expression-kind p (z - 1) → q < 5 → b ≡ end-of (operand-value p h (z - 1)) → b ≡ 0 → Checking n
+        base-again q b eq lt eb e = slots-again b (slot-base q b eq lt eb) e
 
 -- ---- check_assign
 

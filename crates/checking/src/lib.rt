@@ -73,18 +73,27 @@ pub fn check_expression<'a>(p: &[u32], l: &'a [u8], h: &[u32], t: &'a [u8], x: u
     check_slots(p, l, h, t, tables::link(1024, x, d))
 }
 
-// The slots from a place on, in order.
+// The slots from a place on, in order; a base (kinds 0 to 4) is looked at here.
 pub fn check_slots<'a>(p: &[u32], l: &'a [u8], h: &[u32], t: &'a [u8], from: u32) -> u32
     requires { ⌜ ChecksSlots (now p) (now l) (now h) (now t) from ⌝ }
     ensures { λ r. ⌜ r ≡ slots-end (now (p .entry)) (now (l .entry)) (now (h .entry)) (now (t .entry)) from ⌝ }
 {
     let mut z = from;
     while z != 0 {
-        let e = check_expression(p, l, h, t, z - 1);
+        let y = z - 1;
+        if tables::expression_kind(p, y) < 5 {
+            let b = operand_checks::check_operand(p, h, y);
+            if b != 0 {
+                return b;
+            }
+            z = tables::slot_after(p, y);
+            continue;
+        }
+        let e = check_expression(p, l, h, t, y);
         if e != 0 {
             return e;
         }
-        z = tables::slot_after(p, z - 1);
+        z = tables::slot_after(p, y);
     }
     0
 }

@@ -26,7 +26,7 @@ pub fn path_base(
     s: &[u8],
     begins: &[usize],
     ends: &[usize],
-    hints: &[u8; 1024],
+    hints: &[u8; 4096],
     count: u32,
     p: &mut [u32],
     place: Place,

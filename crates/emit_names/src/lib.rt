@@ -32,7 +32,7 @@ pub fn number_at(
     s: &[u8],
     begins: &[usize],
     ends: &[usize],
-    hints: &[u8; 1024],
+    hints: &[u8; 4096],
     n: u32,
     a: usize,
     p: usize,

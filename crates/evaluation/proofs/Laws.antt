@@ -15,7 +15,7 @@ use Rattle.framed.specs.Machine.{frame-literals, frame-literals-in, join-signs,
 use Rattle.tables.specs.declared.ExpressionEntry.{ExpressionEntry}
 use Rattle.tables.proofs.ExpressionEntry.{the-type}
 use Rattle.tables.specs.Entries.{expression-at}
-use Rattle.tables.specs.Fields.{expressions, link, slot-name, slot-after}
+use Rattle.tables.specs.Fields.{expressions, expression-kind, link, slot-name, slot-after}
 use Rattle.program_form.specs.Sound.{SlotPlace, Sound}
 use Rattle.program_form.proofs.Decides.{sound}
 use Rattle.trees.specs.Held.{expression-held, slots-held, OneLevel}
@@ -24,7 +24,9 @@ use Rattle.heap.specs.Words.{self-held, program-held, take-frame, add-slot}
 use Rattle.heap.specs.Held.{frames-in-use}
 use Rattle.allocation.specs.Allocation.{next-frame}
 use Rattle.allocation.specs.Known.{Full}
-use Rattle.bounded.specs.Bounded.{Produced, evaluate, fill}
+use Rattle.bounded.specs.Bounded.{Produced, value-given, evaluate, fill}
+use Rattle.operands.specs.Operands.{operand-value}
+use Rattle.evaluation.proofs.Simple.{base-evaluates}
 use Rattle.word_store.specs.Store.{Memories, word-store, claim-frame}
 use Rattle.word_store.specs.State.{store-held}
 use Rattle.producing.specs.Producing.{Leaves, made}
@@ -275,3 +277,15 @@ module _ (p l : List ℕ) (f from low least : ℕ) (h₀ t₀ : List ℕ) where
               text-size = c .writable .text-size ∙ sym (k .can .writable .text-size) ∙ k .text-size;
               back = λ h₃ t₃ q. k .back h₃ t₃ (rest-filled p l h t f z (k .can) nz (z - 1) refl v h₁ t₁ m x ex h₂ eh w ew h₃ t₃ q);
             }
+
+      -- a base
+      module _ (q : ℕ) (eq : q ≡ expression-kind p (z - 1)) (lt : q < 5) (v : Value) (ev : v ≡ value-given (operand-value p h (z - 1)))
+          (x : ℕ) (ex : x ≡ slot-name p (z - 1)) (h₂ : List ℕ) (eh : h₂ ≡ add-slot h f x v) (w : ℕ) (ew : w ≡ slot-after p (z - 1)) where
+        read : Evaluates p l h t (z - 1) v h t
+        read = base-evaluates p l h t (z - 1) fill-can-evaluate q eq lt v ev
+
+        pub base-less : slots-left w < slots-left z
+        base-less = fill-less v h t read x ex h₂ eh w ew
+
+        pub base-again : Filling h₂ t w
+        base-again = fill-again v h t read x ex h₂ eh w ew

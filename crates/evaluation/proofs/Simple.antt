@@ -105,6 +105,13 @@ module _ (p l h t : List ℕ) (x : ℕ) (w : Writable p l h t) (there : x < expr
   read-made (ExpressionEntry.Operate k a b) is nf o = absurd (miss (0 ∷ 1 ∷ 2 ∷ 3 ∷ 4 ∷ 5 ∷ 6 ∷ 8 ∷ []) 7 tt o)
   read-made ExpressionEntry.Bad is nf o = still _ _ (is-base ExpressionEntry.Bad is refl) base-made (operand-fits p l h (w .program) x there)
 
+-- an expression that is a base by its kind
+pub base-evaluates : (p l h t : List ℕ) (x : ℕ) → CanEvaluate p l h t x → (k : ℕ) → k ≡ expression-kind p x → k < 5 → (v : Value) → v ≡ value-given (operand-value p h x) → Evaluates p l h t x v h t
+base-evaluates p l h t x can k ek lt v ev =
+    let w = can .writable in
+    let there = can .there in
+    rw ev (still p l h t x w there _ _ (one p l h t x w there .as-base x there (omega arith)) (base-made p l h t x w there) (operand-fits p l h (w .program) x there))
+
 -- ---- Operators
 
 abbrev kind-in : ExpressionEntry → ℕ

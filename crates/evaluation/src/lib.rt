@@ -48,7 +48,7 @@ pub fn evaluate(
     Value::Frame(f)
 }
 
-// The slots from a place on: each is evaluated, then pushed on frame f.
+// The slots from a place on: each is evaluated, then pushed on frame f; a base (kinds 0 to 4) is read here.
 pub fn fill(
     p: &[u32],
     l: &[u8],
@@ -66,6 +66,12 @@ pub fn fill(
     let mut z = from;
     while z != 0 {
         let y = z - 1;
+        if tables::expression_kind(p, y) < 5 {
+            let u = producing::given(p, h, y);
+            heap::add_slot(h, f, tables::slot_name(p, y), u);
+            z = tables::slot_after(p, y);
+            continue;
+        }
         let v = evaluate(p, l, h, t, y, low, least);
         heap::add_slot(h, f, tables::slot_name(p, y), v);
         z = tables::slot_after(p, y);

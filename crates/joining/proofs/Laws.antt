@@ -58,18 +58,18 @@ filled p l h t v w m m′ m″ n k e en ek q =
 pub taken : (n : ℕ) (bs : List ℕ) → length bs ≡ 64 → n ≤ 64 → n ≡ length (take n bs)
 taken n bs s le = sym (length-take-le n bs (omega arith))
 
-module _ (p l h t : List ℕ) (k : ℕ) (v w : Value) (m n i j : ℕ) (em : m ≡ shown-size p h v) (en : n ≡ shown-size p h w) (ei : i ≡ m) (ej : j ≡ n) where
-  pub join-long : 64 < i + j → t ≡ join-written p l h t k v w
+module _ (p l h t : List ℕ) (k : ℕ) (v w : Value) (m i : ℕ) (em : m ≡ shown-size p h v + shown-size p h w) (ei : i ≡ m) where
+  pub join-long : 64 < i → t ≡ join-written p l h t k v w
   unfolding join-written
   join-long lt = rw (lt-ltb 64 (shown-size p h v + shown-size p h w) (omega arith))
 
-  module _ (le : i + j ≤ 64) (buf buf′ : List ℕ) (size : length buf ≡ 64) (eb : buf′ ≡ splice buf 0 (join-bytes (literals-held p l) (texts-held h t) v w)) where
-    front : take (i + j) buf′ ≡ join-bytes (literals-held p l) (texts-held h t) v w
+  module _ (le : i ≤ 64) (buf buf′ : List ℕ) (size : length buf ≡ 64) (eb : buf′ ≡ splice buf 0 (join-bytes (literals-held p l) (texts-held h t) v w)) where
+    front : take i buf′ ≡ join-bytes (literals-held p l) (texts-held h t) v w
     front =
         let n = join-length p l h t v w in
         rw (eb, splice-fits buf 0 (join-bytes (literals-held p l) (texts-held h t) v w) (omega arith))
-        (take-at (join-bytes (literals-held p l) (texts-held h t) v w) (drop (0 + length (join-bytes (literals-held p l) (texts-held h t) v w)) buf) (i + j) (omega arith))
+        (take-at (join-bytes (literals-held p l) (texts-held h t) v w) (drop (0 + length (join-bytes (literals-held p l) (texts-held h t) v w)) buf) i (omega arith))
 
-    pub join-short : (t′ : List ℕ) (a : ℕ) → a ≡ k → t′ ≡ splice t (64 * a) (take (i + j) buf′) → t′ ≡ join-written p l h t k v w
+    pub join-short : (t′ : List ℕ) (a : ℕ) → a ≡ k → t′ ≡ splice t (64 * a) (take i buf′) → t′ ≡ join-written p l h t k v w
     unfolding join-written
     join-short t′ a ea e = rw (le-ltb 64 (shown-size p h v + shown-size p h w) (omega arith), e, ea, front)

@@ -1,7 +1,9 @@
 // `#`: whether two values can be joined, and their bytes joined into made text k. An integer is joined as its decimal.
 use framed::Value;
 ghost use mathlib.Core.Path.{_≡_};
+ghost use Prim.Native.Nat.{_+_};
 ghost use Rattle.heap.specs.Held.{texts-held};
+ghost use Rattle.shown.specs.Shown.{shown-size};
 ghost use Rattle.splice.specs.Splice.{splice};
 ghost use Rattle.texts.specs.Literals.{literals-held};
 ghost use Rattle.texts.specs.Texts.{Readable};
@@ -53,12 +55,22 @@ pub fn fill_join<'a>(
     shown::write_shown(m, words::wide(shown::shown_size(p, h, v)), p, l, h, t, w);
 }
 
-// The joined bytes written as those of made text k; above 64 bytes nothing is written.
-pub fn write_join(p: &[u32], l: &[u8], h: &[u32], t: &mut [u8], k: u32, v: Value, w: Value)
-    requires { ⌜ Readable (now p) (now l) (now h) (now t) ⌝ }
+// The joined bytes, `size` many, written as those of made text k; above 64 bytes nothing is written.
+pub fn write_join(
+    p: &[u32],
+    l: &[u8],
+    h: &[u32],
+    t: &mut [u8],
+    k: u32,
+    v: Value,
+    w: Value,
+    size: u32,
+)
+    requires readable { ⌜ Readable (now p) (now l) (now h) (now t) ⌝ }
+    requires sized { ⌜ size ≡ shown-size (now p) (now h) v + shown-size (now p) (now h) w ⌝ }
     ensures { λ _. ⌜ now (t .exit) ≡ join-written (now (p .entry)) (now (l .entry)) (now (h .entry)) (now (t .entry)) k v w ⌝ }
 {
-    let n = words::wide(shown::shown_size(p, h, v)) + words::wide(shown::shown_size(p, h, w));
+    let n = words::wide(size);
     if 64 < n {
         return;
     }

@@ -11,7 +11,7 @@ fn install(
     source: &[u8],
     begins: &[usize],
     ends: &[usize],
-    hints: &[u8; 1024],
+    hints: &[u8; 4096],
     count: u32,
     f: u32,
     t: u32,
@@ -46,7 +46,7 @@ pub fn load(
     let mut c = [0u64; 16384];
     let mut begins = [0usize; 129];
     let mut ends = [0usize; 129];
-    let mut hints = [0u8; 1024];
+    let mut hints = [0u8; 4096];
     let mut count = 0u32;
     let answer = check_source::check(
         p.len(),

@@ -30,7 +30,7 @@ pub enum Dotted {
 fn name_at(s: &[u8], at: usize) -> Dotted
     ensures { λ r. ⌜ NameAt (now (s .entry)) at r ⌝ }
 {
-    let TokenRead::Token(k, a, e, _w) = reader::token_from(s, at) else {
+    let TokenRead::Token(k, a, e, _w) = token::token_at(s, at) else {
         return Dotted::Other;
     };
     if k != 25 {
@@ -43,7 +43,7 @@ fn name_at(s: &[u8], at: usize) -> Dotted
 fn dotted_name(s: &[u8], at: usize) -> Dotted
     ensures { λ r. ⌜ DottedAt (now (s .entry)) at r ⌝ }
 {
-    match reader::token_from(s, at) {
+    match token::token_at(s, at) {
         TokenRead::End => Dotted::End,
         TokenRead::NoToken => Dotted::Other,
         TokenRead::Token(k, _a, e, _w) => {
@@ -101,7 +101,7 @@ fn follow(p: &[u32], h: &[u32], s: &[u8], from: usize, root: Value) -> Resolved
 pub fn resolve(p: &[u32], h: &[u32], s: &[u8]) -> Resolved
     ensures { λ r. ⌜ Resolves (now (p .entry)) (now (h .entry)) (now (s .entry)) r ⌝ }
 {
-    let TokenRead::Token(k, _a, e, _w) = reader::token_from(s, 0) else {
+    let TokenRead::Token(k, _a, e, _w) = token::token_at(s, 0) else {
         return Resolved::NotPath;
     };
     if k == 1 {

@@ -110,12 +110,12 @@ recalled-else s b e n m a p em t h = h ∙ rw em
 
 -- ---- Hints
 
-hash-bound-from : (h : ℕ) (w : List ℕ) → hash-from h w < 1024
+hash-bound-from : (h : ℕ) (w : List ℕ) → hash-from h w < 4096
 unfolding hash-from
 hash-bound-from h [] = mod-lt h (omega arith)
 hash-bound-from h (b ∷ w) = hash-bound-from ((h * 37 + b) % 65536) w
 
-hash-bound : (w : List ℕ) → hash-of w < 1024
+hash-bound : (w : List ℕ) → hash-of w < 4096
 unfolding hash-of
 hash-bound w = hash-bound-from 0 w
 
@@ -136,11 +136,11 @@ module _ (w : List ℕ) (h i : ℕ) (c : Hashing w h i) where
     rest-is = rw (eb, add-one i) (sym (ap (hash-from h) (drop-cons w i 0 l)) ∙ c .rest-is);
   }
 
-  pub hashing-done : length w ≤ i → (r : ℕ) → r ≡ h % 1024 → (v : List ℕ) → w ≡ v → r ≡ hash-of v
+  pub hashing-done : length w ≤ i → (r : ℕ) → r ≡ h % 4096 → (v : List ℕ) → w ≡ v → r ≡ hash-of v
   unfolding hash-from
   hashing-done l r e v ev = e ∙ ap (hash-from h) (sym (drop-of-length-le w l)) ∙ c .rest-is ∙ ap hash-of ev
 
-pub hash-small : (h r : ℕ) → r ≡ h % 1024 → r < 1024
+pub hash-small : (h r : ℕ) → r ≡ h % 4096 → r < 4096
 hash-small h r e = rw e (mod-lt h (omega arith))
 
 pub hint-is : (hints w : List ℕ) (h g r : ℕ) → h ≡ hash-of w → g ≡ word hints h → r ≡ g → r ≡ word hints (hash-of w)

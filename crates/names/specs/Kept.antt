@@ -24,7 +24,7 @@ is-new s begins ends n k a p = eqb k 25 && not (any (same (part s a p)) (table-o
 
 -- the hash of bytes
 unfoldable pub hash-from : ℕ → List ℕ → ℕ
-hash-from h [] = h % 1024
+hash-from h [] = h % 4096
 hash-from h (b ∷ w) = hash-from ((h * 37 + b) % 65536) w
 
 unfoldable pub hash-of : List ℕ → ℕ
@@ -39,7 +39,7 @@ pub record Noted (s begins ends hints : List ℕ) (n k a p : ℕ) (begins' ends'
 
 -- each of the first n names kept has a hint by its hash
 pub record Marked (s begins ends hints : List ℕ) (n : ℕ) : Type 0 where
-  pub size : length hints ≡ 1024
+  pub size : length hints ≡ 4096
   pub set : (k : ℕ) → k < n → (word hints (hash-of (part s (word begins k) (word ends k))) ≡ 0 → ⊥)
 
 pub record Few (n : ℕ) : Type 0 where
@@ -49,7 +49,7 @@ pub record Few (n : ℕ) : Type 0 where
 pub record Sized (begins ends hints : List ℕ) : Type 0 where
   pub begins-size : length begins ≡ 129
   pub ends-size : length ends ≡ 129
-  pub hints-size : length hints ≡ 1024
+  pub hints-size : length hints ≡ 4096
 
 -- each of the first n names kept is found at its own number, since no name is kept twice
 pub record Numbered (s begins ends : List ℕ) (n : ℕ) : Type 0 where

@@ -57,7 +57,7 @@ pub fn known(s: &[u8], begins: &[usize], ends: &[usize], n: usize, a: usize, p: 
 // The hash of the bytes from a up to p.
 fn hash(s: &[u8], a: usize, p: usize) -> usize
     ensures value { λ r. ⌜ r ≡ hash-of (part (now (s .entry)) a p) ⌝ }
-    ensures small { λ r. ⌜ r < 1024 ⌝ }
+    ensures small { λ r. ⌜ r < 4096 ⌝ }
 {
     let w = token::token_bytes(s, a, p);
     let mut h = 0u32;
@@ -67,11 +67,11 @@ fn hash(s: &[u8], a: usize, p: usize) -> usize
         h = (h * 37 + (b as u32)) % 65536;
         i += 1;
     }
-    wide(h % 1024)
+    wide(h % 4096)
 }
 
 // The hint for the part from a up to p.
-pub fn hint(s: &[u8], hints: &[u8; 1024], a: usize, p: usize) -> u32
+pub fn hint(s: &[u8], hints: &[u8; 4096], a: usize, p: usize) -> u32
     ensures { λ r. ⌜ r ≡ word (now (hints .entry)) (hash-of (part (now (s .entry)) a p)) ⌝ }
 {
     let h = hash(s, a, p);
@@ -80,7 +80,7 @@ pub fn hint(s: &[u8], hints: &[u8; 1024], a: usize, p: usize) -> u32
 }
 
 // The part from a up to p is kept as name n.
-fn set_hint(s: &[u8], hints: &mut [u8; 1024], n: u32, a: usize, p: usize)
+fn set_hint(s: &[u8], hints: &mut [u8; 4096], n: u32, a: usize, p: usize)
     requires { ⌜ Few n ⌝ }
     ensures { λ _. ⌜ now (hints .exit) ≡ set-word (now (hints .entry)) (hash-of (part (now (s .entry)) a p)) (n + 1) ⌝ }
 {
@@ -93,7 +93,7 @@ fn recalled(
     s: &[u8],
     begins: &[usize],
     ends: &[usize],
-    hints: &[u8; 1024],
+    hints: &[u8; 4096],
     n: u32,
     a: usize,
     p: usize,
@@ -123,7 +123,7 @@ fn keep(
     s: &[u8],
     begins: &mut [usize],
     ends: &mut [usize],
-    hints: &mut [u8; 1024],
+    hints: &mut [u8; 4096],
     n: u32,
     k: u32,
     a: usize,
@@ -151,7 +151,7 @@ pub fn keep_names(
     s: &[u8],
     begins: &mut [usize],
     ends: &mut [usize],
-    hints: &mut [u8; 1024],
+    hints: &mut [u8; 4096],
 ) -> u32
     requires cached { ⌜ Cached (now c) (now s) ⌝ }
     requires sized { ⌜ Sized (now begins) (now ends) (now hints) ⌝ }

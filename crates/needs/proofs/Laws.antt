@@ -16,7 +16,7 @@ use Rattle.framed.specs.Machine.{frame-literals, frame-literals-in, is-join, jo
 use Rattle.tables.specs.declared.ExpressionEntry.{ExpressionEntry}
 use Rattle.tables.specs.declared.InstructionEntry.{InstructionEntry}
 use Rattle.tables.specs.Entries.{expression-at, instruction-at}
-use Rattle.tables.specs.Fields.{expressions, link, slot-after}
+use Rattle.tables.specs.Fields.{expressions, expression-kind, link, slot-after}
 use Rattle.tables.proofs.ExpressionEntry.{the-type}
 use Rattle.program_entries.specs.Form as form
 use Rattle.trees.specs.Trees.{Readers, expression-tree, operator-of}
@@ -215,6 +215,21 @@ module _ (p : List ℕ) (from : ℕ) where
           frames = let a = rw (places.slots-open p (k .at .literal-bytes) (k .at .program) z (k .at .place) ne m next) at (k .frames) in omega arith;
           joins = let a = rw (places.slots-open p (k .at .literal-bytes) (k .at .program) z (k .at .place) ne m next) at (k .joins) in omega arith;
         }
+
+        -- a base has neither
+        bare : (q : ℕ) → q ≡ expression-kind p (z - 1) → q ≤ 4 → 0 ≡ both (frame-literals (expression-held p (z - 1))) (join-signs (expression-held p (z - 1)))
+        unfolding frame-literals join-signs both cap
+        bare q e le = rw (one-level-held p (k .at .literal-bytes) (k .at .program) .as-base (z - 1) (slot-expression .there) (omega arith)) refl
+
+        none-more : n ≡ summed n 0
+        unfolding both cap
+        none-more =
+            let f = k .frames-so-far in
+            let j = k .joins-so-far in
+            rw (k .is) (ap-both {f = f} {g = f + 0} {n = j} {m = j + 0} (omega arith) (omega arith) ∙ sym (both-sum f j 0 0))
+
+        pub counted-skip : (q r : ℕ) → q ≡ expression-kind p (z - 1) → q ≤ 4 → r ≡ n → Counted r m
+        counted-skip q r e le same = counted-more 0 r (bare q e le) (same ∙ none-more)
 
 -- ---- The expression of an instruction
 

@@ -67,7 +67,7 @@ pub fn made_of(p: &[u32], x: u32) -> u32
     plus(1, made_in(p, tables::link(1024, x, d)))
 }
 
-// f and t of the slots from a place on
+// f and t of the slots from a place on; a base (kinds 0 to 4) has none
 pub fn made_in(p: &[u32], from: u32) -> u32
     requires { ⌜ AtSlots (now p) from ⌝ }
     ensures { λ r. ⌜ r ≡ both (frame-literals-in (slots-held (now (p .entry)) from)) (join-signs-in (slots-held (now (p .entry)) from)) ⌝ }
@@ -75,8 +75,11 @@ pub fn made_in(p: &[u32], from: u32) -> u32
     let mut n = 0u32;
     let mut z = from;
     while z != 0 {
-        n = plus(n, made_of(p, z - 1));
-        z = tables::slot_after(p, z - 1);
+        let y = z - 1;
+        if 4 < tables::expression_kind(p, y) {
+            n = plus(n, made_of(p, y));
+        }
+        z = tables::slot_after(p, y);
     }
     n
 }

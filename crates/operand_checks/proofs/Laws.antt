@@ -5,6 +5,7 @@ use mathlib.Core.List.{List, [], _∷_}
 use mathlib.Core.Bool.{Bool, true, false}
 use types.Run.{OneOf, miss}
 use denote.Enum.Declared.{tagOf}
+use borrow.Author.Tests.{ne-eqb}
 use Rattle.framed.proofs.Value.{the-type}
 use Rattle.framed.specs.declared.Value.{Value}
 use Rattle.framed.specs.Values.{Frame, truth}
@@ -19,12 +20,13 @@ use Rattle.paths.specs.Paths.{fetched, path-held}
 use Rattle.puts.specs.Puts.{target-along}
 use Rattle.trees.specs.Trees.{path-list}
 use Rattle.trees.specs.Held.{base-held}
-use Rattle.operands.specs.Operands.{operand-value}
+use Rattle.operands.specs.Operands.{operand-value, unpacked}
 use Rattle.operands.proofs.Lists.{same-path}
 use Rattle.operand_checks.specs.OperandChecks.{names-end, put-end, jump-end, ifeq-ends}
 
 -- ---- check_operand
 
+-- a value, and a value as a number
 module _ (p h : List ℕ) (x : ℕ) (r : Fetched) (er : defined (fetched r) ≡ operand-value p h x) where
   pub operand-undefined : r ≡ Fetched.Undefined → 31 ≡ end-of (operand-value p h x)
   unfolding defined end-of
@@ -33,6 +35,15 @@ module _ (p h : List ℕ) (x : ℕ) (r : Fetched) (er : defined (fetched r) ≡ 
   pub operand-found : (v : Value) → r ≡ Fetched.Found v → 0 ≡ end-of (operand-value p h x)
   unfolding defined end-of
   operand-found v e = rw (← er, e)
+
+module _ (p h : List ℕ) (x n : ℕ) (en : defined (fetched (unpacked n)) ≡ operand-value p h x) where
+  pub number-undefined : n ≡ 5 → 31 ≡ end-of (operand-value p h x)
+  unfolding defined end-of unpacked
+  number-undefined e = rw (← en, e)
+
+  pub number-found : (n ≡ 5 → ⊥) → 0 ≡ end-of (operand-value p h x)
+  unfolding defined end-of unpacked
+  number-found ne = rw (← en, ne-eqb n 5 ne)
 
 -- ---- check_put
 

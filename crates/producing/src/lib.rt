@@ -41,7 +41,7 @@ pub fn join(p: &[u32], l: &[u8], h: &mut [u32], t: &mut [u8], v: Value, w: Value
 {
     let k = allocation::lowest_text(h, low);
     let n = shown::shown_size(p, h, v) + shown::shown_size(p, h, w);
-    joining::write_join(p, l, h, t, k, v, w);
+    joining::write_join(p, l, h, t, k, v, w, n);
     heap::take_text(h, k, n);
     Value::Text(Text::Made(k))
 }

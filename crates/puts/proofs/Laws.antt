@@ -94,6 +94,21 @@ module _ (h p : List ℕ) (root : Value) (j n : ℕ) where
         unfolding came frame-number machine._>>=_
         target-found f x e ex = rw (target-came, e, ex)
 
+  -- a path of one name
+  module _ (one : n ≡ 1) where
+    stays : fetched (Fetched.Found root) ≡ fetch (frames-held h) root (path-held p j (n - 1))
+    unfolding fetch path-held listed
+    stays = rw one
+
+    not-empty : n ≡ 0 → ⊥
+    not-empty e = omega arith
+
+    pub one-else : OneOf (0 ∷ 1 ∷ 2 ∷ []) (tagOf the-type root) → targeted PutTarget.NoRule ≡ target-along (frames-held h) root (path-held p j n)
+    one-else e = target-else not-empty (Fetched.Found root) stays root refl e
+
+    pub one-found : (f x : ℕ) → root ≡ Value.Frame f → x ≡ path-name p (j + 0) → targeted (PutTarget.At f x) ≡ target-along (frames-held h) root (path-held p j n)
+    one-found f x e ex = target-found not-empty (Fetched.Found root) stays root refl f x e (ex ∙ ap (λ (k : ℕ). path-name p (j + k)) {x = 0} {y = n - 1} (omega arith))
+
 -- ---- slot_end, put_end
 
 -- the place that a name has, by what Fetch finds

@@ -15,12 +15,18 @@ pub enum PutTarget {
     NoRule,
 }
 
-// Put's walk along the n path names from j on.
+// Put's walk along the n path names from j on. Most paths have one name, and need no walk.
 pub fn put_target(p: &[u32], h: &[u32], root: Value, j: u32, n: u32) -> PutTarget
     ensures { λ r. ⌜ targeted r ≡ target-along (frames-held (now (h .entry))) root (path-held (now (p .entry)) j n) ⌝ }
 {
     if n == 0 {
         return PutTarget::NoRule;
+    }
+    if n == 1 {
+        let Value::Frame(f) = root else {
+            return PutTarget::NoRule;
+        };
+        return PutTarget::At(f, paths::path_name_after(p, j, 0));
     }
     let Fetched::Found(v) = paths::fetch(p, h, root, j, n - 1) else {
         return PutTarget::NoRule;

@@ -2,6 +2,7 @@
 // covers no function over such a struct, so each is proved by hand. Callers use `token_from`, whose parameters are plain.
 ghost use mathlib.Core.Path.{_≡_};
 ghost use Rattle.framed.specs.Bytes.{class};
+ghost use Rattle.source.specs.Classified.{Classified};
 ghost use Rattle.source.specs.Positions.{part};
 ghost use Rattle.token.specs.Reading.{TokenAt};
 use token::TokenRead;
@@ -18,11 +19,12 @@ pub fn new<'a>(src: &'a [u8], at: usize) -> Reader<'a>
     Reader { src, at }
 }
 
-// The token at the reader's position.
-pub fn next<'a>(r: Reader<'a>) -> TokenRead
-    ensures { λ t. ⌜ TokenAt class (now (r .entry .src)) (r .entry .at) t ⌝ }
+// The token at the reader's position, by the table of classes.
+pub fn next<'t, 'a>(t: &'t [u8; 256], r: Reader<'a>) -> TokenRead
+    requires { ⌜ Classified (now t) ⌝ }
+    ensures { λ k. ⌜ TokenAt class (now (r .entry .src)) (r .entry .at) k ⌝ }
 {
-    token::token_at(r.src, r.at)
+    token::token_in(t, r.src, r.at)
 }
 
 // The reader at another position, as the end of a token.
@@ -39,9 +41,10 @@ pub fn bytes<'a>(r: Reader<'a>, begin: usize, end: usize) -> &'a [u8]
     token::token_bytes(r.src, begin, end)
 }
 
-// The token at a position of a source, by a reader.
-pub fn token_from(s: &[u8], at: usize) -> TokenRead
-    ensures { λ t. ⌜ TokenAt class (now (s .entry)) at t ⌝ }
+// The token at a position of a source, by a reader and the table of classes.
+pub fn token_from(t: &[u8; 256], s: &[u8], at: usize) -> TokenRead
+    requires { ⌜ Classified (now t) ⌝ }
+    ensures { λ k. ⌜ TokenAt class (now (s .entry)) at k ⌝ }
 {
-    next(new(s, at))
+    next(t, new(s, at))
 }

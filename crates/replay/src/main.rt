@@ -346,7 +346,7 @@ fn replay(
     let mut script = idle();
     let mut at = 0;
     while at < s.len() {
-        match reader::token_from(s, at) {
+        match token::token_at(s, at) {
             TokenRead::End => {
                 return;
             }

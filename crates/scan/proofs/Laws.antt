@@ -18,7 +18,7 @@ use Rattle.token.specs.Reading.{operator-kind, fixed-kind, token-kind, token-of
 use Rattle.token.specs.declared.TokenRead.{TokenRead}
 use Rattle.token.proofs.KindNumbers.{kind-is}
 use Rattle.token.proofs.Answers.{spot-of, tokens-at-end, tokens-at-none, tokens-at-token}
-use Rattle.token_cache.specs.Cache.{Cached, CanStore}
+use Rattle.token_cache.specs.Cache.{Cached, CanStore, CanEnd}
 use Rattle.scan.specs.Scan.{nesting-refusal, tokens-refusal, depth-after, last-refusal, NotHuge}
 
 less-one : (n : ℕ) → pred n ≡ n - 1
@@ -157,6 +157,10 @@ module _ (c : Classes) (s : List ℕ) (at n high : ℕ) (i : Scanning c s at n h
       ends : (bs : List ℕ) → bs ≡ [] → next c bs ≡ end
       ends bs e = rw e
 
--- a token that was read can be stored
-pub scan-store : (c s : List ℕ) (at k a p w : ℕ) (r : TokenRead) → Cached c s → TokenAt class s at r → r ≡ TokenRead.Token k a p w → CanStore c s at k a p w
-scan-store c s at k a p w r cached found is = record { cached = cached; read = subst (TokenAt class s at) is found }
+-- what was read can be stored
+module _ (c s : List ℕ) (at : ℕ) (r : TokenRead) (cached : Cached c s) (found : TokenAt class s at r) where
+  pub scan-store : (k a p w : ℕ) → r ≡ TokenRead.Token k a p w → CanStore c s at k a p w
+  scan-store k a p w is = record { cached = cached; read = subst (TokenAt class s at) is found }
+
+  pub scan-store-end : r ≡ TokenRead.End → CanEnd c s at
+  scan-store-end is = record { cached = cached; read = subst (TokenAt class s at) is found }

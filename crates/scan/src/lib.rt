@@ -47,18 +47,20 @@ fn verdict(high: usize, depth: usize) -> u32
     if m <= 16 { 0 } else { 5 }
 }
 
-// 4 where bytes form no token, else 5 where the nesting is above 16, else 0. Keeps the tokens that it reads.
+// 4 where bytes form no token, else 5 where the nesting is above 16, else 0. Keeps the tokens that it reads, and where they end.
 pub fn check_tokens(c: &mut [u64; 16384], s: &[u8]) -> u32
     requires { ⌜ Cached (now c) (now s) ⌝ }
     ensures number { λ r. ⌜ r ≡ tokens-refusal (tokens class (now (s .entry))) ⌝ }
     ensures cached { λ _. ⌜ Cached (now (c .exit)) (now (s .entry)) ⌝ }
 {
+    let t = source::classes();
     let mut at = 0;
     let mut depth = 0;
     let mut high = 0;
     while at < s.len() {
-        match reader::token_from(s, at) {
+        match reader::token_from(&t, s, at) {
             TokenRead::End => {
+                token_cache::store_end(c, s, at);
                 return verdict(high, depth);
             }
             TokenRead::NoToken => {

@@ -1,6 +1,6 @@
 -- Laws of the slots of a frame, one for each way through each function, and of the loops over them. Assumes nothing.
 use mathlib.Core.Path.{_≡_, refl, sym, ap, _∙_}
-use mathlib.Core.Bool.{Bool, true, false, _&&_, _||_, false≢true}
+use mathlib.Core.Bool.{Bool, true, false, not, _&&_, _||_, true≢false, false≢true}
 use mathlib.Core.List.{List, [], _∷_, _++_}
 use mathlib.Core.Option.{Option, none, some}
 use Prim.Native.Nat.{ℕ, _+_, _-_, _<_, _≤_}
@@ -21,11 +21,12 @@ use Rattle.token.specs.declared.TokenRead.{TokenRead}
 use Rattle.token.proofs.KindNumbers.{kind-is}
 use Rattle.token.proofs.Answers.{spot-of, tokens-at-token}
 use Rattle.scan.specs.Scan.{depth-after, NotHuge}
+use Rattle.scan.proofs.Laws.{no-bracket}
 use Rattle.sweep.specs.Decides.{Decides}
 use Rattle.sweep.proofs.Loop.{over, Going, Gives, go-start, go-end, go-none, go-done, go-again, go-early}
 use Rattle.names.specs.Kept.{table-of}
 use Rattle.names.proofs.Laws.{table-length, table-more}
-use Rattle.slots.specs.Own.{closes, names-slot, own-slots, own-names, repeats, bytes-of, bad-slots, bad-frames, Added, BadSlots, OpensBad, bad-tree}
+use Rattle.slots.specs.Own.{closes, names-slot, plain, own-slots, own-names, repeats, bytes-of, bad-slots, bad-frames, Added, BadSlots, OpensBad, bad-tree}
 use Rattle.slots.specs.Checks.{frames-bad, Clear, clear-after, Checks, Opens}
 use Rattle.slots.specs.declared.Checked.{Checked}
 use Rattle.slots.proofs.Bad.{tree-bad}
@@ -64,6 +65,35 @@ slot-name d l k h = go (eqb k 25) refl
     go : (t : Bool) → eqb k 25 ≡ t → k ≡ 25
     go true x = eqb-true k 25 x
     go false x = absurd (false≢true (slot-other d l k (eqb-false k 25 x) ∙ h))
+
+module _ (k : ℕ) where
+  pub plain-low : k < 12 → true ≡ plain k
+  unfolding plain
+  plain-low l = rw (lt-ltb k 12 l)
+
+  pub plain-bracket : 12 ≤ k → k < 16 → false ≡ plain k
+  unfolding plain
+  plain-bracket g l = rw (le-ltb k 12 g, lt-ltb k 16 l)
+
+  pub plain-high : 12 ≤ k → 16 ≤ k → not (eqb k 25) ≡ plain k
+  unfolding plain
+  plain-high g h = rw (le-ltb k 12 g, le-ltb k 16 h)
+
+  module _ (is : plain k ≡ true) where
+    plain-not : (n : ℕ) → plain n ≡ false → (k ≡ n → ⊥)
+    plain-not n f e = true≢false (sym is ∙ ap plain e ∙ f)
+
+    plain-closes : (d : ℕ) → false ≡ closes d k
+    unfolding plain
+    plain-closes d = closes-not d k (plain-not 13 refl) (plain-not 15 refl)
+
+    plain-slot : (d l : ℕ) → false ≡ names-slot d l k
+    unfolding plain
+    plain-slot d l = slot-other d l k (plain-not 25 refl)
+
+    plain-depth : (d : ℕ) → d ≡ depth-after d k
+    unfolding plain
+    plain-depth d = no-bracket d k (plain-not 12 refl) (plain-not 14 refl) (plain-not 13 refl) (plain-not 15 refl)
 
 pub depth-small : (n k : ℕ) → depth-after n k ≤ n + 1
 unfolding depth-after
@@ -215,6 +245,14 @@ module _ (s : List ℕ) (from : ℕ) (b e : List ℕ) (n d l at : ℕ) (i : Coll
             shallow = omega (arith, depth-small d k, i .shallow, spot .begins, spot .more);
             going = rw ed (go-again _ s from _ at (i .going) r found k a p w h _ (λ us f. after .step us ∙ rw (le-ltb 16 n' m)));
           }
+
+-- a token that is neither a bracket nor a name leaves what is kept
+pub collect-plain : (s : List ℕ) (from : ℕ) (b e : List ℕ) (n d l at : ℕ) → Collecting s from b e n d l at → (r : TokenRead) → TokenAt class s at r
+    → (k a p w : ℕ) → r ≡ TokenRead.Token k a p w → (q : Bool) → q ≡ plain k → q ≡ true → Collecting s from b e n d k p
+collect-plain s from b e n d l at i r found k a p w h q is t =
+    let y : plain k ≡ true = sym is ∙ t in
+    collect-again s from b e n d l at i r found k a p w h false (plain-closes k y d) refl false (plain-slot k y d l) false refl refl b e n
+    (added-not s b e n a p false refl) (i .few) d (plain-depth k y d)
 
 -- ---- Where no frame begins
 

@@ -1,7 +1,7 @@
 -- Document 01, the table, number 8: the slots of a frame, found among the tokens from its `[` on. A name directly in the frame, not after a
 -- dot, is a slot's; brackets inside it are counted. For tokens and for symbols alike, by their kinds. Assumes nothing.
 use mathlib.Core.Path.{_≡_}
-use mathlib.Core.Bool.{Bool, false, _&&_, _||_}
+use mathlib.Core.Bool.{Bool, true, false, not, _&&_, _||_}
 use mathlib.Core.List.{List, [], _∷_, _++_}
 use mathlib.Core.Option.{some}
 use Prim.Native.Nat.{ℕ, _+_}
@@ -25,6 +25,10 @@ closes d k = if eqb k 13 then eqb d 0 else if eqb k 15 then eqb d 0 else false
 -- there a token of kind k, after one of kind l, is the name of a slot
 unfoldable pub names-slot : ℕ → ℕ → ℕ → Bool
 names-slot d l k = if eqb k 25 then (if eqb l 7 then false else eqb d 0) else false
+
+-- a token of kind k is neither a bracket nor a name
+unfoldable pub plain : ℕ → Bool
+plain k = if ltb k 12 then true else if ltb k 16 then false else not (eqb k 25)
 
 -- a slot: its name, and what follows it
 pub data Own (T : Type 0) : Type 0 where

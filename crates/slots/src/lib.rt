@@ -7,7 +7,7 @@ ghost use Rattle.scan.specs.Scan.{depth-after, NotHuge};
 ghost use Rattle.sweep.specs.Decides.{Decides};
 ghost use Rattle.token_cache.specs.Cache.{Cached};
 ghost use Rattle.names.specs.Kept.{table-of};
-ghost use Rattle.slots.specs.Own.{closes, names-slot, Added, bad-tree};
+ghost use Rattle.slots.specs.Own.{closes, names-slot, plain, Added, bad-tree};
 ghost use Rattle.slots.specs.Checks.{clear-after, Checks, Opens};
 use token::TokenRead;
 
@@ -55,6 +55,19 @@ pub fn depth_after(depth: usize, k: u32) -> usize
         return sweep::one_less(depth);
     }
     depth
+}
+
+// A token of kind k is neither a bracket nor a name.
+fn plain(k: u32) -> bool
+    ensures { λ r. ⌜ r ≡ plain k ⌝ }
+{
+    if k < 12 {
+        return true;
+    }
+    if k < 16 {
+        return false;
+    }
+    k != 25
 }
 
 // A slot's name, from a up to p, is one of the n names kept.
@@ -135,6 +148,12 @@ fn bad_slots(c: &[u64; 16384], s: &[u8], from: usize) -> Checked
                 return Checked { bad: false, clear };
             }
             TokenRead::Token(k, begin, end, _word) => {
+                if plain(k) {
+                    clear = clear_after(clear, at, k, end);
+                    last = k;
+                    at = end;
+                    continue;
+                }
                 if closes(depth, k) {
                     return Checked { bad: false, clear };
                 }

@@ -1,11 +1,12 @@
 -- Laws of the weights, one for each way through each function, and of the loop that sums them. Assumes nothing.
-use mathlib.Core.Path.{_≡_}
+use mathlib.Core.Path.{_≡_, refl}
 use mathlib.Core.Bool.{Bool, true, false}
 use mathlib.Core.List.{List, [], _∷_}
 use Prim.Native.Nat.{ℕ, _+_, _*_, _-_, _<_, _≤_}
 use native.Mathlib.Omega.{arith}
 use lib.Dec.{eqb, ltb}
 use lib.ListN.{length}
+use borrow.Author.Needs.{needs}
 use borrow.Author.Tests.{eq-eqb, ne-eqb, lt-ltb, le-ltb}
 use Rattle.framed.specs.Common.{if_then_else_}
 use Rattle.framed.specs.Bytes.{class}
@@ -18,9 +19,10 @@ use Rattle.token.proofs.Answers.{spot-of}
 use Rattle.sweep.specs.Kinds.{kinds}
 use Rattle.sweep.specs.Decides.{Short}
 use Rattle.sweep.proofs.Loop.{Going, Gives, go-start, go-end, go-none, go-done, go-again}
-use Rattle.sums.specs.Weights.{one-if, opened, closed, curly-after, square-after, further-after, expression-weight, plain-weight, mark-weight, placed-weight, up-weight, path-weight, weight, sum-of, whole-sum, NotHuge, Sums}
-use Rattle.sums.specs.Totals.{Totalled, nothing, Added, Room, Rooms}
+use Rattle.sums.specs.Weights.{one-if, opened, closed, curly-after, square-after, further-after, expression-weight, plain-weight, mark-weight, placed-weight, up-weight, path-weight, weight, sum-of, whole-sum, Sums}
+use Rattle.sums.specs.Totals.{Totalled, nothing, sums-of, Climbs, Counts, Room}
 use Rattle.sums.specs.declared.Totals.{Totals}
+use Rattle.sums.specs.declared.Tally.{Tally}
 
 module _ (a b : ℕ) where
   pub one-yes : a ≡ b → 1 ≡ one-if a b
@@ -39,30 +41,9 @@ module _ (a b : ℕ) where
       go true = omega arith
       go false = omega arith
 
--- ---- Brackets and further `^`
-
-module _ (c k : ℕ) where
-  pub curly-open : k ≡ 14 → c + 1 ≡ curly-after c k
-  unfolding curly-after
-  curly-open e = rw e
-
-  pub curly-close : (r : ℕ) → r ≡ c - 1 → (k ≡ 14 → ⊥) → k ≡ 15 → r ≡ curly-after c k
-  unfolding curly-after
-  curly-close r h n e = rw e h
-
-  pub curly-same : (k ≡ 14 → ⊥) → (k ≡ 15 → ⊥) → c ≡ curly-after c k
-  unfolding curly-after
-  curly-same n m = rw (ne-eqb k 14 n, ne-eqb k 15 m)
+-- ---- Brackets
 
 module _ (c q : ℕ) where
-  pub opened-outside : c ≡ 0 → q + 1 ≡ opened c q
-  unfolding opened
-  opened-outside e = rw e
-
-  pub opened-inside : (c ≡ 0 → ⊥) → q ≡ opened c q
-  unfolding opened
-  opened-inside n = rw (ne-eqb c 0 n)
-
   pub closed-inside : (c ≡ 0 → ⊥) → q ≡ closed c q
   unfolding closed
   closed-inside n = rw (ne-eqb c 0 n)
@@ -71,164 +52,273 @@ module _ (c q : ℕ) where
   unfolding closed
   closed-outside e r h = rw e h
 
-  module _ (k : ℕ) where
-    pub square-open : k ≡ 12 → (r : ℕ) → r ≡ opened c q → r ≡ square-after c q k
-    unfolding square-after
-    square-open e r h = rw e h
+-- ---- A token
 
-    pub square-close : (k ≡ 12 → ⊥) → k ≡ 13 → (r : ℕ) → r ≡ closed c q → r ≡ square-after c q k
-    unfolding square-after
-    square-close n e r h = rw e h
+-- a tally with another number in one place
+abbrev pub with-expressions : Tally → ℕ → Tally
+with-expressions t n = record { expressions = n; instructions = t .instructions; strings = t .strings; codes = t .codes; frames = t .frames; misplaced = t .misplaced; names = t .names; named = t .named; far = t .far; curly = t .curly; square = t .square; further = t .further }
 
-    pub square-same : (k ≡ 12 → ⊥) → (k ≡ 13 → ⊥) → q ≡ square-after c q k
-    unfolding square-after
-    square-same n m = rw (ne-eqb k 12 n, ne-eqb k 13 m)
+abbrev pub with-instructions : Tally → ℕ → Tally
+with-instructions t n = record { expressions = t .expressions; instructions = n; strings = t .strings; codes = t .codes; frames = t .frames; misplaced = t .misplaced; names = t .names; named = t .named; far = t .far; curly = t .curly; square = t .square; further = t .further }
 
-module _ (l f k : ℕ) where
-  pub further-same : (k ≡ 8 → ⊥) → f ≡ further-after l f k
+abbrev pub with-strings : Tally → ℕ → Tally
+with-strings t n = record { expressions = t .expressions; instructions = t .instructions; strings = n; codes = t .codes; frames = t .frames; misplaced = t .misplaced; names = t .names; named = t .named; far = t .far; curly = t .curly; square = t .square; further = t .further }
+
+abbrev pub with-codes : Tally → ℕ → Tally
+with-codes t n = record { expressions = t .expressions; instructions = t .instructions; strings = t .strings; codes = n; frames = t .frames; misplaced = t .misplaced; names = t .names; named = t .named; far = t .far; curly = t .curly; square = t .square; further = t .further }
+
+abbrev pub with-frames : Tally → ℕ → Tally
+with-frames t n = record { expressions = t .expressions; instructions = t .instructions; strings = t .strings; codes = t .codes; frames = n; misplaced = t .misplaced; names = t .names; named = t .named; far = t .far; curly = t .curly; square = t .square; further = t .further }
+
+abbrev pub with-misplaced : Tally → ℕ → Tally
+with-misplaced t n = record { expressions = t .expressions; instructions = t .instructions; strings = t .strings; codes = t .codes; frames = t .frames; misplaced = n; names = t .names; named = t .named; far = t .far; curly = t .curly; square = t .square; further = t .further }
+
+abbrev pub with-names : Tally → ℕ → Tally
+with-names t n = record { expressions = t .expressions; instructions = t .instructions; strings = t .strings; codes = t .codes; frames = t .frames; misplaced = t .misplaced; names = n; named = t .named; far = t .far; curly = t .curly; square = t .square; further = t .further }
+
+abbrev pub with-named : Tally → ℕ → Tally
+with-named t n = record { expressions = t .expressions; instructions = t .instructions; strings = t .strings; codes = t .codes; frames = t .frames; misplaced = t .misplaced; names = t .names; named = n; far = t .far; curly = t .curly; square = t .square; further = t .further }
+
+abbrev pub with-far : Tally → ℕ → Tally
+with-far t n = record { expressions = t .expressions; instructions = t .instructions; strings = t .strings; codes = t .codes; frames = t .frames; misplaced = t .misplaced; names = t .names; named = t .named; far = n; curly = t .curly; square = t .square; further = t .further }
+
+abbrev pub with-curly : Tally → ℕ → Tally
+with-curly t n = record { expressions = t .expressions; instructions = t .instructions; strings = t .strings; codes = t .codes; frames = t .frames; misplaced = t .misplaced; names = t .names; named = t .named; far = t .far; curly = n; square = t .square; further = t .further }
+
+abbrev pub with-square : Tally → ℕ → Tally
+with-square t n = record { expressions = t .expressions; instructions = t .instructions; strings = t .strings; codes = t .codes; frames = t .frames; misplaced = t .misplaced; names = t .names; named = t .named; far = t .far; curly = t .curly; square = n; further = t .further }
+
+abbrev pub with-further : Tally → ℕ → Tally
+with-further t n = record { expressions = t .expressions; instructions = t .instructions; strings = t .strings; codes = t .codes; frames = t .frames; misplaced = t .misplaced; names = t .names; named = t .named; far = t .far; curly = t .curly; square = t .square; further = n }
+
+-- a mark counts outside code
+placed : (what c k o : ℕ) → o ≡ one-if c 0 → placed-weight what c k ≡ o * mark-weight what k
+unfolding placed-weight one-if
+placed what c k o e = rw e (go (eqb c 0) (mark-weight what k))
+  where
+    go : (t : Bool) (n : ℕ) → (if t then n else 0) ≡ (if t then 1 else 0) * n
+    go true n = omega arith
+    go false n = omega arith
+
+opened-is : (c q o : ℕ) → o ≡ one-if c 0 → q + o ≡ opened c q
+unfolding opened one-if
+opened-is c q o e = rw e (go (eqb c 0))
+  where
+    go : (t : Bool) → q + (if t then 1 else 0) ≡ (if t then q + 1 else q)
+    go true = omega arith
+    go false = omega arith
+
+pub outside-fits : (n c o : ℕ) → n < 4294967296 → o ≡ one-if c 0 → n + o < 18446744073709551616
+outside-fits n c o h e = omega (arith, one-small c 0)
+
+-- two weights agree, whatever of the nine is summed
+record Nine (x y : ℕ → ℕ) : Type 0 where
+  n0 : x 0 ≡ y 0
+  n1 : x 1 ≡ y 1
+  n2 : x 2 ≡ y 2
+  n3 : x 3 ≡ y 3
+  n4 : x 4 ≡ y 4
+  n5 : x 5 ≡ y 5
+  n6 : x 6 ≡ y 6
+  n7 : x 7 ≡ y 7
+  n8 : x 8 ≡ y 8
+
+nine : (x y : ℕ → ℕ) → ((what : ℕ) → x what ≡ y what) → Nine x y
+nine x y h = record { n0 = h 0; n1 = h 1; n2 = h 2; n3 = h 3; n4 = h 4; n5 = h 5; n6 = h 6; n7 = h 7; n8 = h 8 }
+
+marks : (c k o : ℕ) → o ≡ one-if c 0 → Nine (λ what. placed-weight what c k) (λ what. o * mark-weight what k)
+marks c k o e = nine _ _ (λ what. placed what c k o e)
+
+module _ (what q f l : ℕ) where
+  up-first : (l ≡ 7 → ⊥) → up-weight what q f l ≡ (if eqb what 6 then q - 1 else 0)
+  unfolding up-weight
+  up-first n = rw (ne-eqb l 7 n)
+
+  up-near : l ≡ 7 → f < q - 1 → up-weight what q f l ≡ one-if what 7
+  unfolding up-weight
+  up-near e h = rw (e, lt-ltb f (q - 1) h)
+
+  up-far : l ≡ 7 → q - 1 ≤ f → up-weight what q f l ≡ one-if what 8
+  unfolding up-weight
+  up-far e h = rw (e, le-ltb f (q - 1) h)
+
+  up-none : one-if what 7 ≡ 0 → one-if what 8 ≡ 0 → eqb what 6 ≡ false → up-weight what q f l ≡ 0
+  unfolding up-weight
+  up-none a b c = rw (a, b, c) (go (eqb l 7) (ltb f (q - 1)))
+    where
+      go : (t u : Bool) → _≡_ {A = ℕ} (if t then (if u then 0 else 0) else 0) 0
+      go true true = refl
+      go true false = refl
+      go false u = refl
+
+  slot-path : (l ≡ 7 → ⊥) → path-weight what q f l 25 ≡ 0
+  unfolding path-weight
+  slot-path n = rw (ne-eqb l 7 n)
+
+module _ (l f : ℕ) where
+  further-first : (l ≡ 7 → ⊥) → further-after l f 8 ≡ 0
   unfolding further-after
-  further-same n = rw (ne-eqb k 8 n)
+  further-first n = rw (ne-eqb l 7 n)
 
-  pub further-first : k ≡ 8 → (l ≡ 7 → ⊥) → 0 ≡ further-after l f k
+  further-more : l ≡ 7 → further-after l f 8 ≡ f + 1
   unfolding further-after
-  further-first e n = rw (e, ne-eqb l 7 n)
+  further-more e = rw e
 
-  pub further-more : k ≡ 8 → l ≡ 7 → f + 1 ≡ further-after l f k
-  unfolding further-after
-  further-more e d = rw (e, d)
+-- a `^`, after a token of kind l
+module _ (t : Tally) (l levels : ℕ) (is : levels ≡ t .square - 1) where
+  abbrev weights : (ℕ → ℕ) → Type 0
+  weights = Nine (λ what. up-weight what (t .square) (t .further) l)
 
--- ---- What a token adds
+  pub climb-first : (l ≡ 7 → ⊥) → Climbs t l (with-further (with-names t (t .names + levels)) 0)
+  climb-first n =
+      let u : weights (λ what. if eqb what 6 then t .square - 1 else 0) = nine _ _ (λ what. up-first what (t .square) (t .further) l n) in
+      let f = further-first l (t .further) n in
+      search needs
 
-module _ (what k e : ℕ) (is : e ≡ one-if what 0) where
-  pub two-small : e + e < 18446744073709551616
-  two-small = omega (arith, one-small what 0)
+  pub climb-near : l ≡ 7 → t .further < levels → Climbs t l (with-named (with-further t (t .further + 1)) (t .named + 1))
+  unfolding one-if
+  climb-near e h =
+      let u : weights (λ what. one-if what 7) = nine _ _ (λ what. up-near what (t .square) (t .further) l e (omega arith)) in
+      let f = further-more l (t .further) e in
+      search needs
 
-  pub three-small : e + e + e < 18446744073709551616
-  three-small = omega (arith, one-small what 0)
+  pub climb-far : l ≡ 7 → levels ≤ t .further → Climbs t l (with-far (with-further t (t .further + 1)) (t .far + 1))
+  unfolding one-if
+  climb-far e h =
+      let u : weights (λ what. one-if what 8) = nine _ _ (λ what. up-far what (t .square) (t .further) l e (omega arith)) in
+      let f = further-more l (t .further) e in
+      search needs
 
-  pub e-three : k ≡ 3 → e + e ≡ expression-weight what k
-  unfolding expression-weight
-  e-three h = rw (h, is)
+-- above the kinds of brackets
+past-brackets : (k : ℕ) → (k ≡ 12 → ⊥) → (k ≡ 13 → ⊥) → (k ≡ 14 → ⊥) → (k ≡ 15 → ⊥) → 12 ≤ k → 16 ≤ k
+past-brackets k a b c d h = omega arith
 
-  pub e-four : (k ≡ 3 → ⊥) → k ≡ 4 → e + e + e ≡ expression-weight what k
-  unfolding expression-weight
-  e-four a h = rw (h, is)
+-- a token of kind k, after one of kind l
+module _ (t : Tally) (l k : ℕ) where
+  pub count-self : k ≡ 1 → (o : ℕ) → o ≡ one-if (t .curly) 0 → Counts t l k (with-misplaced t (t .misplaced + o))
+  unfolding weight plain-weight expression-weight mark-weight path-weight curly-after square-after further-after one-if
+  count-self e o eo = rw e (let m = marks (t .curly) 1 o eo in search needs)
 
-  pub e-two : (k ≡ 3 → ⊥) → (k ≡ 4 → ⊥) → k ≡ 2 → e ≡ expression-weight what k
-  unfolding expression-weight
-  e-two a b h = rw h is
+  pub count-show : k ≡ 2 → Counts t l k (with-expressions t (t .expressions + 1))
+  unfolding weight plain-weight expression-weight mark-weight path-weight curly-after square-after further-after one-if
+  count-show e = rw e (let m = marks (t .curly) 2 _ refl in search needs)
 
-  module _ (a : k ≡ 3 → ⊥) (b : k ≡ 4 → ⊥) (c : k ≡ 2 → ⊥) where
-    pub e-six : k ≡ 6 → e ≡ expression-weight what k
-    unfolding expression-weight
-    e-six h = rw h is
+  pub count-jump : k ≡ 3 → Counts t l k (with-expressions t (t .expressions + 2))
+  unfolding weight plain-weight expression-weight mark-weight path-weight curly-after square-after further-after one-if
+  count-jump e = rw e (let m = marks (t .curly) 3 _ refl in search needs)
 
-    module _ (d : k ≡ 6 → ⊥) where
-      pub e-nine : k ≡ 9 → e ≡ expression-weight what k
-      unfolding expression-weight
-      e-nine h = rw h is
+  pub count-ifeq : k ≡ 4 → Counts t l k (with-expressions t (t .expressions + 3))
+  unfolding weight plain-weight expression-weight mark-weight path-weight curly-after square-after further-after one-if
+  count-ifeq e = rw e (let m = marks (t .curly) 4 _ refl in search needs)
 
-      module _ (g : k ≡ 9 → ⊥) where
-        pub e-low : k < 16 → 0 ≡ expression-weight what k
-        unfolding expression-weight
-        e-low l = rw (ne-eqb k 3 a, ne-eqb k 4 b, ne-eqb k 2 c, ne-eqb k 6 d, ne-eqb k 9 g, lt-ltb k 16 l)
+  pub count-assign : k ≡ 6 → Counts t l k (with-expressions t (t .expressions + 1))
+  unfolding weight plain-weight expression-weight mark-weight path-weight curly-after square-after further-after one-if
+  count-assign e = rw e (let m = marks (t .curly) 6 _ refl in search needs)
 
-        pub e-high : 16 ≤ k → 24 < k → 0 ≡ expression-weight what k
-        unfolding expression-weight
-        e-high l h = rw (ne-eqb k 3 a, ne-eqb k 4 b, ne-eqb k 2 c, ne-eqb k 6 d, ne-eqb k 9 g, le-ltb k 16 l, lt-ltb 24 k h)
+  pub count-bang : k ≡ 9 → (o : ℕ) → o ≡ one-if (t .curly) 0 → Counts t l k (with-misplaced (with-expressions t (t .expressions + 1)) (t .misplaced + o))
+  unfolding weight plain-weight expression-weight mark-weight path-weight curly-after square-after further-after one-if
+  count-bang e o eo = rw e (let m = marks (t .curly) 9 o eo in search needs)
 
-        pub e-operator : 16 ≤ k → k ≤ 24 → e + e ≡ expression-weight what k
-        unfolding expression-weight
-        e-operator l h = rw (ne-eqb k 3 a, ne-eqb k 4 b, ne-eqb k 2 c, ne-eqb k 6 d, ne-eqb k 9 g, le-ltb k 16 l, le-ltb 24 k h, is)
+  pub count-semicolon : k ≡ 10 → Counts t l k (with-instructions t (t .instructions + 1))
+  unfolding weight plain-weight expression-weight mark-weight path-weight curly-after square-after further-after one-if
+  count-semicolon e = rw e (let m = marks (t .curly) 10 _ refl in search needs)
 
-module _ (what k r : ℕ) where
-  pub p-instruction : k ≡ 10 → r ≡ one-if what 1 → r ≡ plain-weight what k
-  unfolding plain-weight
-  p-instruction e h = rw e h
+  pub count-open : k ≡ 12 → (o : ℕ) → o ≡ one-if (t .curly) 0 → Counts t l k (with-square (with-frames t (t .frames + o)) (t .square + o))
+  unfolding weight plain-weight expression-weight mark-weight path-weight curly-after square-after further-after one-if
+  count-open e o eo = rw e (let m = marks (t .curly) 12 o eo in let g = opened-is (t .curly) (t .square) o eo in search needs)
 
-  pub p-string : (k ≡ 10 → ⊥) → k ≡ 27 → r ≡ one-if what 2 → r ≡ plain-weight what k
-  unfolding plain-weight
-  p-string a e h = rw e h
+  pub count-close : k ≡ 13 → (q : ℕ) → q ≡ closed (t .curly) (t .square) → Counts t l k (with-square t q)
+  unfolding weight plain-weight expression-weight mark-weight path-weight curly-after square-after further-after one-if
+  count-close e q eq = rw e (let m = marks (t .curly) 13 _ refl in search needs)
 
-  pub p-code : (k ≡ 10 → ⊥) → (k ≡ 27 → ⊥) → k ≡ 28 → r ≡ one-if what 3 → r ≡ plain-weight what k
-  unfolding plain-weight
-  p-code a b e h = rw e h
+  pub count-open-curly : k ≡ 14 → Counts t l k (with-curly t (t .curly + 1))
+  unfolding weight plain-weight expression-weight mark-weight path-weight curly-after square-after further-after one-if
+  count-open-curly e = rw e (let m = marks (t .curly) 14 _ refl in search needs)
 
-  pub p-expression : (k ≡ 10 → ⊥) → (k ≡ 27 → ⊥) → (k ≡ 28 → ⊥) → r ≡ expression-weight what k → r ≡ plain-weight what k
-  unfolding plain-weight
-  p-expression a b c h = rw (ne-eqb k 10 a, ne-eqb k 27 b, ne-eqb k 28 c) h
+  pub count-close-curly : k ≡ 15 → (c : ℕ) → c ≡ t .curly - 1 → Counts t l k (with-curly t c)
+  unfolding weight plain-weight expression-weight mark-weight path-weight curly-after square-after further-after one-if
+  count-close-curly e c ec = rw e (let m = marks (t .curly) 15 _ refl in search needs)
 
-  pub m-frame : k ≡ 12 → r ≡ one-if what 4 → r ≡ mark-weight what k
-  unfolding mark-weight
-  m-frame e h = rw e h
+  pub count-string : k ≡ 27 → Counts t l k (with-strings t (t .strings + 1))
+  unfolding weight plain-weight expression-weight mark-weight path-weight curly-after square-after further-after one-if
+  count-string e = rw e (let m = marks (t .curly) 27 _ refl in search needs)
 
-  pub m-self : (k ≡ 12 → ⊥) → k ≡ 1 → r ≡ one-if what 5 → r ≡ mark-weight what k
-  unfolding mark-weight
-  m-self a e h = rw e h
+  pub count-code : k ≡ 28 → Counts t l k (with-codes t (t .codes + 1))
+  unfolding weight plain-weight expression-weight mark-weight path-weight curly-after square-after further-after one-if
+  count-code e = rw e (let m = marks (t .curly) 28 _ refl in search needs)
 
-  pub m-up : (k ≡ 12 → ⊥) → (k ≡ 1 → ⊥) → k ≡ 8 → r ≡ one-if what 5 → r ≡ mark-weight what k
-  unfolding mark-weight
-  m-up a b e h = rw e h
+  pub count-name : k ≡ 25 → l ≡ 7 → Counts t l k (with-names t (t .names + 1))
+  unfolding weight plain-weight expression-weight mark-weight path-weight curly-after square-after further-after one-if
+  count-name e d = rw (e, d) (let m = marks (t .curly) 25 _ refl in search needs)
 
-  pub m-bang : (k ≡ 12 → ⊥) → (k ≡ 1 → ⊥) → (k ≡ 8 → ⊥) → k ≡ 9 → r ≡ one-if what 5 → r ≡ mark-weight what k
-  unfolding mark-weight
-  m-bang a b c e h = rw e h
+  pub count-slot : k ≡ 25 → (l ≡ 7 → ⊥) → Counts t l k t
+  unfolding weight plain-weight expression-weight mark-weight curly-after square-after further-after
+  count-slot e n = rw e (let m = marks (t .curly) 25 _ refl in let j = nine _ _ (λ what. slot-path what (t .square) (t .further) l n) in search needs)
 
-  module _ (a : k ≡ 12 → ⊥) (b : k ≡ 1 → ⊥) (c : k ≡ 8 → ⊥) (d : k ≡ 9 → ⊥) where
-    pub m-low : k < 16 → 0 ≡ mark-weight what k
+  pub count-up : k ≡ 8 → (o : ℕ) → o ≡ one-if (t .curly) 0 → (r : Tally) → Climbs (with-misplaced t (t .misplaced + o)) l r → Counts t l k r
+  unfolding weight plain-weight expression-weight mark-weight path-weight curly-after square-after one-if
+  count-up e o eo r d =
+      rw e
+      (let m = marks (t .curly) 8 o eo in
+      let u0 = none 0 refl refl refl in
+      let u1 = none 1 refl refl refl in
+      let u2 = none 2 refl refl refl in
+      let u3 = none 3 refl refl refl in
+      let u4 = none 4 refl refl refl in
+      let u5 = none 5 refl refl refl in
+      search needs)
+    where
+      none : (what : ℕ) → one-if what 7 ≡ 0 → one-if what 8 ≡ 0 → eqb what 6 ≡ false → up-weight what (t .square) (t .further) l ≡ 0
+      none what = up-none what (t .square) (t .further) l
+
+  -- a kind that is none of those: an operator counts, any other adds nothing
+  module _ (n1 : k ≡ 1 → ⊥) (n2 : k ≡ 2 → ⊥) (n3 : k ≡ 3 → ⊥) (n4 : k ≡ 4 → ⊥) (n6 : k ≡ 6 → ⊥) (n8 : k ≡ 8 → ⊥) (n9 : k ≡ 9 → ⊥) (n10 : k ≡ 10 → ⊥) (n12 : k ≡ 12 → ⊥) (n13 : k ≡ 13 → ⊥) (n14 : k ≡ 14 → ⊥) (n15 : k ≡ 15 → ⊥) (n25 : k ≡ 25 → ⊥) (n27 : k ≡ 27 → ⊥) (n28 : k ≡ 28 → ⊥) where
+    plain-bare : (what : ℕ) → plain-weight what k ≡ (if ltb k 16 then 0 else if ltb 24 k then 0 else one-if what 0 + one-if what 0)
+    unfolding plain-weight expression-weight
+    plain-bare what =
+        rw (ne-eqb k 10 n10, ne-eqb k 27 n27, ne-eqb k 28 n28, ne-eqb k 3 n3, ne-eqb k 4 n4, ne-eqb k 2 n2, ne-eqb k 6 n6, ne-eqb k 9 n9)
+
+    mark-bare : (what : ℕ) → mark-weight what k ≡ (if ltb k 16 then 0 else if ltb 24 k then 0 else one-if what 5)
     unfolding mark-weight
-    m-low l = rw (ne-eqb k 12 a, ne-eqb k 1 b, ne-eqb k 8 c, ne-eqb k 9 d, lt-ltb k 16 l)
+    mark-bare what = rw (ne-eqb k 12 n12, ne-eqb k 1 n1, ne-eqb k 8 n8, ne-eqb k 9 n9)
 
-    pub m-high : 16 ≤ k → 24 < k → 0 ≡ mark-weight what k
-    unfolding mark-weight
-    m-high l h = rw (ne-eqb k 12 a, ne-eqb k 1 b, ne-eqb k 8 c, ne-eqb k 9 d, le-ltb k 16 l, lt-ltb 24 k h)
+    path-bare : (what : ℕ) → path-weight what (t .square) (t .further) l k ≡ 0
+    unfolding path-weight
+    path-bare what = rw (ne-eqb k 8 n8, ne-eqb k 25 n25)
 
-    pub m-operator : 16 ≤ k → k ≤ 24 → r ≡ one-if what 5 → r ≡ mark-weight what k
-    unfolding mark-weight
-    m-operator l h e = rw (ne-eqb k 12 a, ne-eqb k 1 b, ne-eqb k 8 c, ne-eqb k 9 d, le-ltb k 16 l, le-ltb 24 k h) e
+    curly-bare : curly-after (t .curly) k ≡ t .curly
+    unfolding curly-after
+    curly-bare = rw (ne-eqb k 14 n14, ne-eqb k 15 n15)
 
-module _ (what c k : ℕ) where
-  pub placed-inside : (c ≡ 0 → ⊥) → 0 ≡ placed-weight what c k
-  unfolding placed-weight
-  placed-inside n = rw (ne-eqb c 0 n)
+    square-bare : square-after (t .curly) (t .square) k ≡ t .square
+    unfolding square-after
+    square-bare = rw (ne-eqb k 12 n12, ne-eqb k 13 n13)
 
-  pub placed-outside : c ≡ 0 → (r : ℕ) → r ≡ mark-weight what k → r ≡ placed-weight what c k
-  unfolding placed-weight
-  placed-outside e r h = rw e h
+    further-bare : further-after l (t .further) k ≡ t .further
+    unfolding further-after
+    further-bare = rw (ne-eqb k 8 n8)
 
-module _ (what q f l : ℕ) (levels : ℕ) (is : levels ≡ q - 1) where
-  pub up-near : l ≡ 7 → f < levels → (r : ℕ) → r ≡ one-if what 7 → r ≡ up-weight what q f l
-  unfolding up-weight
-  up-near e h r g = rw (e, ← is, lt-ltb f levels h) g
+    bare : (u v : Bool) (o : ℕ) → o ≡ one-if (t .curly) 0 → ltb k 16 ≡ u → ltb 24 k ≡ v →
+        Nine (λ what. weight what (t .curly) (t .square) (t .further) l k)
+        (λ what. if u then 0 else if v then 0 else one-if what 0 + one-if what 0 + o * one-if what 5)
+    unfolding weight
+    bare u v o eo eu ev = nine _ _ (λ what. rw (placed what (t .curly) k o eo, plain-bare what, mark-bare what, path-bare what, eu, ev) (go u v _ _))
+      where
+        go : (u v : Bool) (x y : ℕ) → (if u then 0 else if v then 0 else x) + o * (if u then 0 else if v then 0 else y) + 0 ≡ (if u then 0 else if v then 0 else x + o * y)
+        go true v x y = omega arith
+        go false true x y = omega arith
+        go false false x y = omega arith
 
-  pub up-far : l ≡ 7 → levels ≤ f → (r : ℕ) → r ≡ one-if what 8 → r ≡ up-weight what q f l
-  unfolding up-weight
-  up-far e h r g = rw (e, ← is, le-ltb f levels h) g
+    pub count-low : k < 12 → Counts t l k t
+    count-low h = let w = bare true _ _ refl (lt-ltb k 16 (omega arith)) refl in let c = curly-bare in let q = square-bare in let f = further-bare in search needs
 
-  pub up-first : (l ≡ 7 → ⊥) → what ≡ 6 → levels ≡ up-weight what q f l
-  unfolding up-weight
-  up-first n e = rw (ne-eqb l 7 n, e) is
+    pub count-high : 25 ≤ k → Counts t l k t
+    count-high h = let w = bare false true _ refl (le-ltb k 16 (omega arith)) (lt-ltb 24 k (omega arith)) in let c = curly-bare in let q = square-bare in let f = further-bare in search needs
 
-  pub up-other : (l ≡ 7 → ⊥) → (what ≡ 6 → ⊥) → 0 ≡ up-weight what q f l
-  unfolding up-weight
-  up-other n e = rw (ne-eqb l 7 n, ne-eqb what 6 e)
-
-module _ (what q f l k : ℕ) where
-  pub path-up : k ≡ 8 → (r : ℕ) → r ≡ up-weight what q f l → r ≡ path-weight what q f l k
-  unfolding path-weight
-  path-up e r h = rw e h
-
-  pub path-other : (k ≡ 8 → ⊥) → (k ≡ 25 → ⊥) → 0 ≡ path-weight what q f l k
-  unfolding path-weight
-  path-other a b = rw (ne-eqb k 8 a, ne-eqb k 25 b)
-
-  pub path-slot : (k ≡ 8 → ⊥) → k ≡ 25 → (l ≡ 7 → ⊥) → 0 ≡ path-weight what q f l k
-  unfolding path-weight
-  path-slot a e n = rw (e, ne-eqb l 7 n)
-
-  pub path-name : (k ≡ 8 → ⊥) → k ≡ 25 → l ≡ 7 → (r : ℕ) → r ≡ one-if what 6 → r ≡ path-weight what q f l k
-  unfolding path-weight
-  path-name a e n r h = rw (e, n) h
+    pub count-operator : 12 ≤ k → k < 25 → (o : ℕ) → o ≡ one-if (t .curly) 0 → Counts t l k (with-misplaced (with-expressions t (t .expressions + 2)) (t .misplaced + o))
+    unfolding one-if
+    count-operator g h o eo =
+        let w = bare false false o eo (le-ltb k 16 (past-brackets k n12 n13 n14 n15 g)) (le-ltb 24 k (omega arith)) in let c = curly-bare in let q = square-bare in let f = further-bare in search needs
 
 -- ---- How large it is
 
@@ -264,17 +354,6 @@ path-small what q f l k =
   where
     e : (t : Bool) (x y : ℕ) → x ≤ q + 1 → y ≤ q + 1 → (if t then x else y) ≤ q + 1
     e = either (q + 1)
-
-module _ (what c q f l k a b d : ℕ) (small : NotHuge q) (ea : a ≡ plain-weight what k) (eb : b ≡ placed-weight what c k) (ed : d ≡ path-weight what q f l k) where
-  pub weight-two : a + b < 18446744073709551616
-  weight-two = omega (arith, plain-small what k, placed-small what c k)
-
-  pub weight-three : a + b + d < 18446744073709551616
-  weight-three = omega (arith, plain-small what k, placed-small what c k, path-small what q f l k, small .small)
-
-  pub weight-is : a + b + d ≡ weight what c q f l k
-  unfolding weight
-  weight-is = rw (ea, eb, ed)
 
 weight-small : (what c q f l k : ℕ) → weight what c q f l k ≤ q + 5
 unfolding weight
@@ -318,18 +397,6 @@ module _ (s : List ℕ) (what at n c q f l : ℕ) (i : Summing s what at n c q f
   pub sum-done : length s ≤ at → Sums s what n
   sum-done h = ended s what n c q f l (go-done _ s 0 _ at (i .going) h)
 
-  pub sum-curly : Short s → at < length s → NotHuge c
-  sum-curly h l = record { small = omega (arith, h .short, i .few-curly) }
-
-  pub sum-square : Short s → at < length s → NotHuge q
-  sum-square h l = record { small = omega (arith, h .short, i .few-square) }
-
-  pub sum-further : Short s → at < length s → NotHuge f
-  sum-further h l = record { small = omega (arith, h .short, i .few-further) }
-
-  pub sum-room : Short s → at < length s → Room n q
-  sum-room h m = record { few = omega (arith, h .short, i .few-square); room = omega (arith, h .short, i .few) }
-
   module _ (r : TokenRead) (found : TokenAt class s at r) where
     pub sum-end : r ≡ TokenRead.End → Sums s what n
     sum-end e = ended s what n c q f l (go-end _ s 0 _ at (i .going) r found e)
@@ -355,32 +422,28 @@ module _ (s : List ℕ) (what at n c q f l : ℕ) (i : Summing s what at n c q f
         going = rw (em, ef, eq, ec) (go-again _ s 0 _ at (i .going) r found k a p w e _ (λ us f. step us));
       }
 
-pub plus-room : (n what c q f l k d : ℕ) → Room n q → d ≡ weight what c q f l k → n + d < 18446744073709551616
-plus-room n what c q f l k d h e = omega (arith, weight-small what c q f l k, h .few, h .room)
-
-pub not-huge : (n q : ℕ) → Room n q → NotHuge q
-not-huge n q h = record { small = omega (arith, h .few) }
-
 -- ---- The nine sums
 
-pub record Tallying (s : List ℕ) (at : ℕ) (t : Totals) (c q f l : ℕ) : Type 0 where
-  pub expressions : Summing s 0 at (t .expressions) c q f l
-  pub instructions : Summing s 1 at (t .instructions) c q f l
-  pub strings : Summing s 2 at (t .strings) c q f l
-  pub codes : Summing s 3 at (t .codes) c q f l
-  pub frames : Summing s 4 at (t .frames) c q f l
-  pub misplaced : Summing s 5 at (t .misplaced) c q f l
-  pub names : Summing s 6 at (t .names) c q f l
-  pub named : Summing s 7 at (t .named) c q f l
-  pub far : Summing s 8 at (t .far) c q f l
+-- the nine sums of t, and last token of kind l, at a position
+pub record Tallying (s : List ℕ) (at : ℕ) (t : Tally) (l : ℕ) : Type 0 where
+  pub expressions : Summing s 0 at (t .expressions) (t .curly) (t .square) (t .further) l
+  pub instructions : Summing s 1 at (t .instructions) (t .curly) (t .square) (t .further) l
+  pub strings : Summing s 2 at (t .strings) (t .curly) (t .square) (t .further) l
+  pub codes : Summing s 3 at (t .codes) (t .curly) (t .square) (t .further) l
+  pub frames : Summing s 4 at (t .frames) (t .curly) (t .square) (t .further) l
+  pub misplaced : Summing s 5 at (t .misplaced) (t .curly) (t .square) (t .further) l
+  pub names : Summing s 6 at (t .names) (t .curly) (t .square) (t .further) l
+  pub named : Summing s 7 at (t .named) (t .curly) (t .square) (t .further) l
+  pub far : Summing s 8 at (t .far) (t .curly) (t .square) (t .further) l
 
-pub tally-start : (s : List ℕ) (t : Totals) → t ≡ nothing → Tallying s 0 t 0 0 0 0
+pub tally-start : (s : List ℕ) (t : Tally) → t ≡ nothing → Tallying s 0 t 0
 unfolding nothing
 tally-start s t e = rw e (record { expressions = sum-start s 0; instructions = sum-start s 1; strings = sum-start s 2; codes = sum-start s 3; frames = sum-start s 4; misplaced = sum-start s 5; names = sum-start s 6; named = sum-start s 7; far = sum-start s 8 })
 
-module _ (s : List ℕ) (at : ℕ) (t : Totals) (c q f l : ℕ) (i : Tallying s at t c q f l) where
-  ends : ((what n : ℕ) → Summing s what at n c q f l → Sums s what n) → Totalled s t
-  ends h = record {
+module _ (s : List ℕ) (at : ℕ) (t : Tally) (l : ℕ) (i : Tallying s at t l) where
+  ends : ((what n : ℕ) → Summing s what at n (t .curly) (t .square) (t .further) l → Sums s what n) → (r : Totals) → r ≡ sums-of t → Totalled s r
+  unfolding sums-of
+  ends h r e = rw e (record {
     expressions = h 0 _ (i .expressions);
     instructions = h 1 _ (i .instructions);
     strings = h 2 _ (i .strings);
@@ -390,43 +453,36 @@ module _ (s : List ℕ) (at : ℕ) (t : Totals) (c q f l : ℕ) (i : Tallying s 
     names = h 6 _ (i .names);
     named = h 7 _ (i .named);
     far = h 8 _ (i .far);
-  }
+  })
 
-  pub tally-done : length s ≤ at → Totalled s t
-  tally-done h = ends (λ what n j. sum-done s what at n c q f l j h)
+  pub tally-done : length s ≤ at → (r : Totals) → r ≡ sums-of t → Totalled s r
+  tally-done h = ends (λ what n j. sum-done s what at n _ _ _ l j h)
 
-  pub tally-curly : Short s → at < length s → NotHuge c
-  tally-curly = sum-curly s 0 at _ c q f l (i .expressions)
-
-  pub tally-square : Short s → at < length s → NotHuge q
-  tally-square = sum-square s 0 at _ c q f l (i .expressions)
-
-  pub tally-further : Short s → at < length s → NotHuge f
-  tally-further = sum-further s 0 at _ c q f l (i .expressions)
-
-  pub tally-rooms : Short s → at < length s → Rooms t q
-  tally-rooms h m = record {
-    expressions = sum-room s 0 at _ c q f l (i .expressions) h m;
-    instructions = sum-room s 1 at _ c q f l (i .instructions) h m;
-    strings = sum-room s 2 at _ c q f l (i .strings) h m;
-    codes = sum-room s 3 at _ c q f l (i .codes) h m;
-    frames = sum-room s 4 at _ c q f l (i .frames) h m;
-    misplaced = sum-room s 5 at _ c q f l (i .misplaced) h m;
-    names = sum-room s 6 at _ c q f l (i .names) h m;
-    named = sum-room s 7 at _ c q f l (i .named) h m;
-    far = sum-room s 8 at _ c q f l (i .far) h m;
+  pub tally-room : Short s → at < length s → Room t
+  tally-room h m = record {
+    expressions = omega (arith, h .short, i .expressions .few);
+    instructions = omega (arith, h .short, i .instructions .few);
+    strings = omega (arith, h .short, i .strings .few);
+    codes = omega (arith, h .short, i .codes .few);
+    frames = omega (arith, h .short, i .frames .few);
+    misplaced = omega (arith, h .short, i .misplaced .few);
+    names = omega (arith, h .short, i .names .few);
+    named = omega (arith, h .short, i .named .few);
+    far = omega (arith, h .short, i .far .few);
+    curly = omega (arith, h .short, i .expressions .few-curly);
+    square = omega (arith, h .short, i .expressions .few-square);
+    further = omega (arith, h .short, i .expressions .few-further);
   }
 
   module _ (r : TokenRead) (found : TokenAt class s at r) where
-    pub tally-end : r ≡ TokenRead.End → Totalled s t
-    tally-end e = ends (λ what n j. sum-end s what at n c q f l j r found e)
+    pub tally-end : r ≡ TokenRead.End → (u : Totals) → u ≡ sums-of t → Totalled s u
+    tally-end e = ends (λ what n j. sum-end s what at n _ _ _ l j r found e)
 
-    pub tally-none : r ≡ TokenRead.NoToken → Totalled s t
-    tally-none e = ends (λ what n j. sum-none s what at n c q f l j r found e)
+    pub tally-none : r ≡ TokenRead.NoToken → (u : Totals) → u ≡ sums-of t → Totalled s u
+    tally-none e = ends (λ what n j. sum-none s what at n _ _ _ l j r found e)
 
-    pub tally-again : (k a p w : ℕ) → r ≡ TokenRead.Token k a p w → (u : Totals) → Added t c q f l k u → (f' q' c' : ℕ) → Short s → at < length s →
-        f' ≡ further-after l f k → q' ≡ square-after c q k → c' ≡ curly-after c k → Tallying s p u c' q' f' k
-    tally-again k a p w e u d f' q' c' h v ef eq ec = record {
+    pub tally-again : (k a p w : ℕ) → r ≡ TokenRead.Token k a p w → (u : Tally) → Counts t l k u → Short s → at < length s → Tallying s p u k
+    tally-again k a p w e u d h v = record {
       expressions = again 0 _ _ (i .expressions) (d .expressions);
       instructions = again 1 _ _ (i .instructions) (d .instructions);
       strings = again 2 _ _ (i .strings) (d .strings);
@@ -438,5 +494,6 @@ module _ (s : List ℕ) (at : ℕ) (t : Totals) (c q f l : ℕ) (i : Tallying s 
       far = again 8 _ _ (i .far) (d .far);
     }
       where
-        again : (what n m : ℕ) → Summing s what at n c q f l → m ≡ n + weight what c q f l k → Summing s what p m c' q' f' k
-        again what n m j em = sum-again s what at n c q f l j r found k a p w e m f' q' c' h v em ef eq ec
+        again : (what n m : ℕ) → Summing s what at n (t .curly) (t .square) (t .further) l → m ≡ n + weight what (t .curly) (t .square) (t .further) l k →
+            Summing s what p m (u .curly) (u .square) (u .further) k
+        again what n m j em = sum-again s what at n _ _ _ l j r found k a p w e m _ _ _ h v em (d .further) (d .square) (d .curly)

@@ -8,7 +8,7 @@
 use mathlib.Core.Path.{_≡_}
 use mathlib.Core.List.{List, [], _∷_}
 use mathlib.Core.Option.{some}
-use Prim.Native.Nat.{ℕ, _+_, _-_, _<_}
+use Prim.Native.Nat.{ℕ, _+_, _-_}
 use lib.Dec.{eqb, ltb}
 use Rattle.framed.specs.Common.{if_then_else_}
 use Rattle.framed.specs.Bytes.{class}
@@ -96,9 +96,6 @@ sum-of what c q f l (k ∷ ks) =
 -- the sum over all tokens; no token has come before
 unfoldable pub whole-sum : ℕ → List Token → ℕ
 whole-sum what ts = sum-of what 0 0 0 0 (kinds ts)
-
-pub record NotHuge (n : ℕ) : Type 0 where
-  pub small : n < 18446744073709551000
 
 -- where the source is tokens, the answer is their sum
 pub record Sums (s : List ℕ) (what r : ℕ) : Type 0 where

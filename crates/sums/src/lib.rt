@@ -5,201 +5,11 @@
 //   6 names in paths, and at each first `^` the levels from the program frame down to the frame that holds the code
 //   7 further `^` that name a frame, 8 further `^` above the program frame
 ghost use mathlib.Core.Path.{_≡_};
-ghost use Prim.Native.Nat.{_+_};
-ghost use Rattle.sums.specs.Weights.{one-if, opened, closed, curly-after, square-after, further-after, expression-weight, plain-weight, mark-weight, placed-weight, up-weight, path-weight, weight, NotHuge};
-ghost use Rattle.sums.specs.Totals.{Room, Rooms, Added, nothing, Totalled};
+ghost use Rattle.sums.specs.Weights.{one-if, closed};
+ghost use Rattle.sums.specs.Totals.{Totalled, Room, UpRoom, nothing, sums-of, Climbs, Counts};
 ghost use Rattle.sweep.specs.Decides.{Short};
 ghost use Rattle.token_cache.specs.Cache.{Cached};
 use token::TokenRead;
-
-fn one_if(a: u32, b: u32) -> usize
-    ensures { λ r. ⌜ r ≡ one-if a b ⌝ }
-{
-    if a == b { 1 } else { 0 }
-}
-
-// How many `{` are open after a token of kind k.
-fn curly_after(curly: usize, k: u32) -> usize
-    requires { ⌜ NotHuge curly ⌝ }
-    ensures { λ r. ⌜ r ≡ curly-after curly k ⌝ }
-{
-    if k == 14 {
-        return curly + 1;
-    }
-    if k == 15 {
-        return sweep::one_less(curly);
-    }
-    curly
-}
-
-// How many `[` outside code are open after a `[` and after a `]`.
-fn opened(curly: usize, square: usize) -> usize
-    requires { ⌜ NotHuge square ⌝ }
-    ensures { λ r. ⌜ r ≡ opened curly square ⌝ }
-{
-    if curly == 0 { square + 1 } else { square }
-}
-
-fn closed(curly: usize, square: usize) -> usize
-    ensures { λ r. ⌜ r ≡ closed curly square ⌝ }
-{
-    if curly != 0 {
-        return square;
-    }
-    sweep::one_less(square)
-}
-
-// How many `[` outside code are open after a token of kind k.
-fn square_after(curly: usize, square: usize, k: u32) -> usize
-    requires { ⌜ NotHuge square ⌝ }
-    ensures { λ r. ⌜ r ≡ square-after curly square k ⌝ }
-{
-    if k == 12 {
-        return opened(curly, square);
-    }
-    if k == 13 {
-        return closed(curly, square);
-    }
-    square
-}
-
-// How many further `^` the path has after a token of kind k.
-fn further_after(last: u32, further: usize, k: u32) -> usize
-    requires { ⌜ NotHuge further ⌝ }
-    ensures { λ r. ⌜ r ≡ further-after last further k ⌝ }
-{
-    if k != 8 {
-        return further;
-    }
-    if last != 7 {
-        return 0;
-    }
-    further + 1
-}
-
-// How many expressions a token of kind k makes.
-fn expression_weight(what: u32, k: u32) -> usize
-    ensures { λ r. ⌜ r ≡ expression-weight what k ⌝ }
-{
-    let e = one_if(what, 0);
-    if k == 3 {
-        return e + e;
-    }
-    if k == 4 {
-        return e + e + e;
-    }
-    if k == 2 {
-        return e;
-    }
-    if k == 6 {
-        return e;
-    }
-    if k == 9 {
-        return e;
-    }
-    if k < 16 {
-        return 0;
-    }
-    if 24 < k {
-        return 0;
-    }
-    e + e
-}
-
-// What counts wherever it stands.
-fn plain_weight(what: u32, k: u32) -> usize
-    ensures { λ r. ⌜ r ≡ plain-weight what k ⌝ }
-{
-    if k == 10 {
-        return one_if(what, 1);
-    }
-    if k == 27 {
-        return one_if(what, 2);
-    }
-    if k == 28 {
-        return one_if(what, 3);
-    }
-    expression_weight(what, k)
-}
-
-// What counts outside code.
-fn mark_weight(what: u32, k: u32) -> usize
-    ensures { λ r. ⌜ r ≡ mark-weight what k ⌝ }
-{
-    if k == 12 {
-        return one_if(what, 4);
-    }
-    if k == 1 {
-        return one_if(what, 5);
-    }
-    if k == 8 {
-        return one_if(what, 5);
-    }
-    if k == 9 {
-        return one_if(what, 5);
-    }
-    if k < 16 {
-        return 0;
-    }
-    if 24 < k {
-        return 0;
-    }
-    one_if(what, 5)
-}
-
-// The same, and nothing in code.
-fn placed_weight(what: u32, curly: usize, k: u32) -> usize
-    ensures { λ r. ⌜ r ≡ placed-weight what curly k ⌝ }
-{
-    if curly != 0 {
-        return 0;
-    }
-    mark_weight(what, k)
-}
-
-// What a `^` counts.
-fn up_weight(what: u32, square: usize, further: usize, last: u32) -> usize
-    ensures { λ r. ⌜ r ≡ up-weight what square further last ⌝ }
-{
-    let levels = sweep::one_less(square);
-    if last == 7 {
-        if further < levels {
-            return one_if(what, 7);
-        }
-        return one_if(what, 8);
-    }
-    if what == 6 {
-        return levels;
-    }
-    0
-}
-
-// What counts in paths.
-fn path_weight(what: u32, square: usize, further: usize, last: u32, k: u32) -> usize
-    ensures { λ r. ⌜ r ≡ path-weight what square further last k ⌝ }
-{
-    if k == 8 {
-        return up_weight(what, square, further, last);
-    }
-    if k != 25 {
-        return 0;
-    }
-    if last != 7 {
-        return 0;
-    }
-    one_if(what, 6)
-}
-
-// What a token of kind k adds.
-fn weight(what: u32, curly: usize, square: usize, further: usize, last: u32, k: u32) -> usize
-    requires { ⌜ NotHuge square ⌝ }
-    ensures { λ r. ⌜ r ≡ weight what curly square further last k ⌝ }
-{
-    let a = plain_weight(what, k);
-    let b = placed_weight(what, curly, k);
-    let c = path_weight(what, square, further, last, k);
-    a + b + c
-}
 
 // The nine sums, by what is summed.
 pub struct Totals {
@@ -214,45 +24,147 @@ pub struct Totals {
     pub far: usize,
 }
 
-// A sum with what a token of kind k adds.
-fn plus(
-    n: usize,
-    what: u32,
+// The sums and what they depend on: open `{`, open `[` outside code, further `^` of the path.
+struct Tally {
+    expressions: usize,
+    instructions: usize,
+    strings: usize,
+    codes: usize,
+    frames: usize,
+    misplaced: usize,
+    names: usize,
+    named: usize,
+    far: usize,
     curly: usize,
     square: usize,
     further: usize,
-    last: u32,
-    k: u32,
-) -> usize
-    requires { ⌜ Room n square ⌝ }
-    ensures { λ r. ⌜ r ≡ n + weight what curly square further last k ⌝ }
-{
-    n + weight(what, curly, square, further, last, k)
 }
 
-// The sums with what a token of kind k adds.
-fn added(t: Totals, curly: usize, square: usize, further: usize, last: u32, k: u32) -> Totals
-    requires { ⌜ Rooms t square ⌝ }
-    ensures { λ r. ⌜ Added t curly square further last k r ⌝ }
+// 1 outside code, 0 in code.
+fn outside(curly: usize) -> usize
+    ensures { λ r. ⌜ r ≡ one-if curly 0 ⌝ }
 {
-    Totals {
-        expressions: plus(t.expressions, 0, curly, square, further, last, k),
-        instructions: plus(t.instructions, 1, curly, square, further, last, k),
-        strings: plus(t.strings, 2, curly, square, further, last, k),
-        codes: plus(t.codes, 3, curly, square, further, last, k),
-        frames: plus(t.frames, 4, curly, square, further, last, k),
-        misplaced: plus(t.misplaced, 5, curly, square, further, last, k),
-        names: plus(t.names, 6, curly, square, further, last, k),
-        named: plus(t.named, 7, curly, square, further, last, k),
-        far: plus(t.far, 8, curly, square, further, last, k),
+    if curly == 0 { 1 } else { 0 }
+}
+
+// How many `[` outside code are open after a `]`.
+fn closed(curly: usize, square: usize) -> usize
+    ensures { λ r. ⌜ r ≡ closed curly square ⌝ }
+{
+    if curly != 0 {
+        return square;
+    }
+    sweep::one_less(square)
+}
+
+// What a `^` adds to the paths, after a token of kind last.
+fn up(t: Tally, last: u32) -> Tally
+    requires { ⌜ UpRoom t ⌝ }
+    ensures { λ r. ⌜ Climbs t last r ⌝ }
+{
+    let mut r = t;
+    let levels = sweep::one_less(t.square);
+    if last != 7 {
+        r.names = t.names + levels;
+        r.further = 0;
+        return r;
+    }
+    r.further = t.further + 1;
+    if t.further < levels {
+        r.named = t.named + 1;
+        r
+    } else {
+        r.far = t.far + 1;
+        r
     }
 }
 
-// No sum has begun.
-fn nothing() -> Totals
+// The tally after a token of kind k, after one of kind last.
+fn count(t: Tally, last: u32, k: u32) -> Tally
+    requires { ⌜ Room t ⌝ }
+    ensures { λ r. ⌜ Counts t last k r ⌝ }
+{
+    let mut r = t;
+    match k {
+        1 => {
+            r.misplaced = t.misplaced + outside(t.curly);
+            r
+        }
+        2 => {
+            r.expressions = t.expressions + 1;
+            r
+        }
+        3 => {
+            r.expressions = t.expressions + 2;
+            r
+        }
+        4 => {
+            r.expressions = t.expressions + 3;
+            r
+        }
+        6 => {
+            r.expressions = t.expressions + 1;
+            r
+        }
+        8 => {
+            r.misplaced = t.misplaced + outside(t.curly);
+            up(r, last)
+        }
+        9 => {
+            r.expressions = t.expressions + 1;
+            r.misplaced = t.misplaced + outside(t.curly);
+            r
+        }
+        10 => {
+            r.instructions = t.instructions + 1;
+            r
+        }
+        12 => {
+            let o = outside(t.curly);
+            r.frames = t.frames + o;
+            r.square = t.square + o;
+            r
+        }
+        13 => {
+            r.square = closed(t.curly, t.square);
+            r
+        }
+        14 => {
+            r.curly = t.curly + 1;
+            r
+        }
+        15 => {
+            r.curly = sweep::one_less(t.curly);
+            r
+        }
+        16..=24 => {
+            r.expressions = t.expressions + 2;
+            r.misplaced = t.misplaced + outside(t.curly);
+            r
+        }
+        25 => {
+            if last == 7 {
+                r.names = t.names + 1;
+            }
+            r
+        }
+        27 => {
+            r.strings = t.strings + 1;
+            r
+        }
+        28 => {
+            r.codes = t.codes + 1;
+            r
+        }
+        _ => r,
+    }
+}
+
+// No token has come.
+fn nothing() -> Tally
     ensures { λ r. ⌜ r ≡ nothing ⌝ }
 {
-    Totals {
+    Tally {
         expressions: 0,
         instructions: 0,
         strings: 0,
@@ -262,6 +174,26 @@ fn nothing() -> Totals
         names: 0,
         named: 0,
         far: 0,
+        curly: 0,
+        square: 0,
+        further: 0,
+    }
+}
+
+// The sums of a tally.
+fn sums_of(t: Tally) -> Totals
+    ensures { λ r. ⌜ r ≡ sums-of t ⌝ }
+{
+    Totals {
+        expressions: t.expressions,
+        instructions: t.instructions,
+        strings: t.strings,
+        codes: t.codes,
+        frames: t.frames,
+        misplaced: t.misplaced,
+        names: t.names,
+        named: t.named,
+        far: t.far,
     }
 }
 
@@ -273,27 +205,21 @@ pub fn sum_all(c: &[u64; 16384], s: &[u8]) -> Totals
 {
     let mut at = 0;
     let mut t = nothing();
-    let mut curly = 0;
-    let mut square = 0;
-    let mut further = 0;
     let mut last = 0;
     while at < s.len() {
         match token_cache::token_in(c, s, at) {
             TokenRead::End => {
-                return t;
+                return sums_of(t);
             }
             TokenRead::NoToken => {
-                return t;
+                return sums_of(t);
             }
             TokenRead::Token(k, _begin, end, _word) => {
-                t = added(t, curly, square, further, last, k);
-                further = further_after(last, further, k);
-                square = square_after(curly, square, k);
-                curly = curly_after(curly, k);
+                t = count(t, last, k);
                 last = k;
                 at = end;
             }
         }
     }
-    t
+    sums_of(t)
 }

@@ -1,13 +1,15 @@
 -- One law for each way through the readers of links and through the decoders. Assumes nothing.
 use mathlib.Core.Path.{_≡_, refl, ap, _∙_}
 use mathlib.Core.List.{List}
-use Prim.Native.Nat.{ℕ, zero, suc, _+_, _-_, _≤_, _<_}
+use Prim.Native.Nat.{ℕ, zero, suc, _+_, _-_, _*_, _≤_, _<_}
 use native.Mathlib.Omega.{arith}
+use lib.ListN.{getD}
 use borrow.Author.Tests.{eq-eqb, ne-eqb, lt-ltb, le-ltb, le-leb, lt-leb}
 use Rattle.tables.specs.declared.ExpressionEntry.{ExpressionEntry}
 use Rattle.tables.specs.declared.InstructionEntry.{InstructionEntry}
-use Rattle.tables.specs.Fields.{link, slot-after, follow-slot}
-use Rattle.tables.specs.Entries.{expression-of, instruction-of}
+use Rattle.words.specs.Words.{word}
+use Rattle.tables.specs.Fields.{link, slot-after, follow-slot, expression-kind, expression-a, expression-b, instruction-kind, instruction-a, instruction-b, instruction-c}
+use Rattle.tables.specs.Entries.{expression-of, expression-at, instruction-of, instruction-at}
 
 -- ---- Links
 
@@ -33,6 +35,28 @@ pub follow-on : (p : List ℕ) (z r : ℕ) → (z ≡ 0 → ⊥) → r ≡ slot-
 unfolding follow-slot
 follow-on p zero r ne e = absurd (ne refl)
 follow-on p (suc y) r ne e = e ∙ ap (slot-after p) (omega arith)
+
+-- ---- The words of an entry, one after the other
+
+module _ (p : List ℕ) (x y : ℕ) (e : y ≡ x) where
+  next : (n m k : ℕ) → n + 5 * y + k ≡ m + 5 * x → getD p (n + 5 * y + k) 0 ≡ word p (m + 5 * x)
+  unfolding word
+  next n m k e = ap (λ (i : ℕ). getD p i 0) e
+
+  first : (n : ℕ) → getD p (n + 5 * y) 0 ≡ word p (n + 5 * x)
+  unfolding word
+  first n = rw e
+
+  pub expression-read : (r : ExpressionEntry) →
+      r ≡ expression-of (getD p (7104 + 5 * y) 0) (getD p (7104 + 5 * y + 1) 0) (getD p (7104 + 5 * y + 2) 0) → r ≡ expression-at p x
+  unfolding expression-at expression-kind expression-a expression-b
+  expression-read r er = rw (er, first 7104, next 7104 7105 1 (omega arith), next 7104 7106 2 (omega arith))
+
+  pub instruction-read : (r : InstructionEntry) →
+      r ≡ instruction-of (getD p (4544 + 5 * y) 0) (getD p (4544 + 5 * y + 1) 0) (getD p (4544 + 5 * y + 2) 0) (getD p (4544 + 5 * y + 3) 0) → r ≡ instruction-at p x
+  unfolding instruction-at instruction-kind instruction-a instruction-b instruction-c
+  instruction-read r er =
+      rw (er, first 4544, next 4544 4545 1 (omega arith), next 4544 4546 2 (omega arith), next 4544 4547 3 (omega arith))
 
 -- ---- Decoding an expression
 

@@ -307,10 +307,14 @@ pub fn instruction_of(k: u32, a: u32, b: u32, c: u32) -> InstructionEntry
     InstructionEntry::Bad
 }
 
-// the entry of expression x
+// the entry of expression x; one test for its words where all are there
 pub fn expression_at(p: &[u32], x: u32) -> ExpressionEntry
     ensures { λ r. ⌜ r ≡ expression-at (now (p .entry)) x ⌝ }
 {
+    let i = 7104 + 5 * wide(x);
+    if i + 2 < p.len() {
+        return expression_of(p[i], p[i + 1], p[i + 2]);
+    }
     expression_of(
         expression_kind(p, x),
         expression_a(p, x),
@@ -318,10 +322,14 @@ pub fn expression_at(p: &[u32], x: u32) -> ExpressionEntry
     )
 }
 
-// the entry of instruction i
+// the entry of instruction i, likewise
 pub fn instruction_at(p: &[u32], i: u32) -> InstructionEntry
     ensures { λ r. ⌜ r ≡ instruction-at (now (p .entry)) i ⌝ }
 {
+    let k = 4544 + 5 * wide(i);
+    if k + 3 < p.len() {
+        return instruction_of(p[k], p[k + 1], p[k + 2], p[k + 3]);
+    }
     instruction_of(
         instruction_kind(p, i),
         instruction_a(p, i),

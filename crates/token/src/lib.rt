@@ -172,7 +172,7 @@ fn read_at(t: &[u8; 256], s: &[u8], at: usize) -> TokenRead
     mark_at(s, at)
 }
 
-// The token at a position, after spaces and comments. It is for code that reads many tokens: the table is made once.
+// The token at a position, after spaces and comments, by a table of classes that the caller made: for code that reads many tokens.
 pub fn token_in(t: &[u8; 256], s: &[u8], at: usize) -> TokenRead
     requires { ⌜ Classified (now t) ⌝ }
     ensures { λ r. ⌜ TokenAt class (now (s .entry)) at r ⌝ }
@@ -189,7 +189,11 @@ pub fn token_at(s: &[u8], at: usize) -> TokenRead
     ensures { λ r. ⌜ TokenAt class (now (s .entry)) at r ⌝ }
 {
     let t = source::classes();
-    token_in(&t, s, at)
+    let i = spaces::skip(&t, s, at);
+    if s.len() <= i {
+        return TokenRead::End;
+    }
+    read_at(&t, s, i)
 }
 
 // The bytes of a token that begins and ends there, as a part of the source.

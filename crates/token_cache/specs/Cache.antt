@@ -2,7 +2,9 @@
 use mathlib.Core.Path.{_≡_}
 use mathlib.Core.List.{List}
 use Prim.Native.Nat.{ℕ, _+_, _*_, _/_, _%_, _<_}
+use lib.Dec.{ltb}
 use lib.ListN.{length}
+use Rattle.framed.specs.Common.{if_then_else_}
 use Rattle.framed.specs.Bytes.{class}
 use Rattle.words.specs.Words.{word}
 use Rattle.token.specs.Reading.{TokenAt}
@@ -12,8 +14,13 @@ use Rattle.token.specs.declared.TokenRead.{TokenRead}
 unfoldable pub packed : ℕ → ℕ → ℕ → ℕ → ℕ
 packed k a p w = k + 32 * (a + 32768 * (p + 32768 * w))
 
+-- the token of an entry
+unfoldable pub held : ℕ → TokenRead
+held e = TokenRead.Token (e % 32) (e / 32 % 32768) (e / 1048576 % 32768) (e / 34359738368 % 536870912)
+
+-- what an entry stands for: 31 for the end; a token's is above it, since a token ends after position 0
 unfoldable pub unpacked : ℕ → TokenRead
-unpacked e = TokenRead.Token (e % 32) (e / 32 % 32768) (e / 1048576 % 32768) (e / 34359738368 % 536870912)
+unpacked e = if ltb 31 e then held e else TokenRead.End
 
 -- an entry has room for them
 pub record Small (k a p w : ℕ) : Type 0 where
@@ -22,7 +29,7 @@ pub record Small (k a p w : ℕ) : Type 0 where
   pub end : p < 32768
   pub word-small : w < 536870912
 
--- each entry that is not 0 is the token at its position
+-- each entry that is not 0 stands for what is at its position
 pub record Cached (c s : List ℕ) : Type 0 where
   pub entries : length c ≡ 16384
   pub rule : (at : ℕ) → (word c at ≡ 0 → ⊥) → TokenAt class s at (unpacked (word c at))
@@ -31,3 +38,8 @@ pub record Cached (c s : List ℕ) : Type 0 where
 pub record CanStore (c s : List ℕ) (at k a p w : ℕ) : Type 0 where
   pub cached : Cached c s
   pub read : TokenAt class s at (TokenRead.Token k a p w)
+
+-- the source was read to its end at that position
+pub record CanEnd (c s : List ℕ) (at : ℕ) : Type 0 where
+  pub cached : Cached c s
+  pub read : TokenAt class s at TokenRead.End

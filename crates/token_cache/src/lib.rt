@@ -1,13 +1,13 @@
-// Tokens of a source that were read, kept by the position at which they were read, so that each is read once.
+// Tokens of a source that were read, and its end, kept by the position at which they were read, so that each is read once.
 ghost use mathlib.Core.Path.{_≡_};
 ghost use Rattle.framed.specs.Bytes.{class};
 ghost use Rattle.token.specs.Reading.{TokenAt};
-ghost use Rattle.token_cache.specs.Cache.{Cached, CanStore, Small, unpacked, packed};
+ghost use Rattle.token_cache.specs.Cache.{Cached, CanStore, CanEnd, Small, held, packed};
 use token::TokenRead;
 
-// The token that an entry stands for.
+// The token that an entry above 31 stands for.
 fn unpack(e: u64) -> TokenRead
-    ensures { λ r. ⌜ r ≡ unpacked e ⌝ }
+    ensures { λ r. ⌜ r ≡ held e ⌝ }
 {
     let k = (e % 32) as u32;
     let a = (e / 32 % 32768) as usize;
@@ -33,8 +33,11 @@ pub fn token_in(c: &[u64; 16384], s: &[u8], at: usize) -> TokenRead
 {
     if at < 16384 {
         let e = c[at];
-        if e != 0 {
+        if 31 < e {
             return unpack(e);
+        }
+        if e == 31 {
+            return TokenRead::End;
         }
     }
     token::token_at(s, at)
@@ -55,4 +58,15 @@ pub fn store(c: &mut [u64; 16384], s: &[u8], at: usize, k: u32, a: usize, p: usi
         return;
     }
     c[at] = pack(k, a, p, w);
+}
+
+// Keeps that the source has no more tokens from a position on.
+pub fn store_end(c: &mut [u64; 16384], s: &[u8], at: usize)
+    requires { ⌜ CanEnd (now c) (now s) at ⌝ }
+    ensures { λ _. ⌜ Cached (now (c .exit)) (now (s .entry)) ⌝ }
+{
+    if 16384 <= at {
+        return;
+    }
+    c[at] = 31;
 }

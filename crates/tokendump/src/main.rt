@@ -40,9 +40,10 @@ fn write_token(s: &[u8], kind: u32, begin: usize, end: usize, word: u32) {
 
 // The tokens of a source, up to its end or to bytes that form none.
 fn write_tokens(s: &[u8]) {
+    let t = source::classes();
     let mut at = 0;
     while at < s.len() {
-        match reader::token_from(s, at) {
+        match reader::token_from(&t, s, at) {
             TokenRead::End => {
                 return;
             }

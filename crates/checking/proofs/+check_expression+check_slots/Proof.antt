@@ -2,7 +2,7 @@ use native.Mathlib.Omega.{arith}
 use borrow.Author.Needs.{needs}
 use Rattle.places.specs.Places.{expression-measure, slots-measure}
 use Rattle.checking.proofs.Laws.{expression-readable, frame-slots, frame-falls, expression-single, expression-frame}
-use Rattle.checking.proofs.Laws.{Checking, slots-start, slots-none, slot-expression, slot-falls, slots-met, next-falls, slots-again}
+use Rattle.checking.proofs.Laws.{Checking, slots-start, slots-none, slot-expression, slot-falls, slots-met, next-falls, slots-again, base-met, base-again}
 use Prim.Native.Nat.{ℕ, _<_}
 use borrow.Fn.Kinds.{In}
 use borrow.Fn.PlainCycle.{Measures, is, falls, and}
@@ -13,7 +13,9 @@ use Rattle.checking.proofs.check_slots.Reads as check-slots
 use Rattle.checking.proofs.check_slots.Kinds as check-slots-kinds
 use Rattle.checking.proofs.+check_expression+check_slots.Lts-check_slots as check-slots-lts
 use Rattle.checking.proofs.check_single.Reads as check-single-reads
+use Rattle.operand_checks.proofs.check_operand.Reads as check-operand-reads
 use Rattle.tables.proofs.expression_at.Reads as expression-at-reads
+use Rattle.tables.proofs.expression_kind.Reads as expression-kind-reads
 use Rattle.tables.proofs.link.Reads as link-reads
 use Rattle.tables.proofs.slot_after.Reads as slot-after-reads
 use Rattle.checking.proofs.+check_expression+check_slots.{statement}
@@ -53,7 +55,7 @@ abbrev check-expression-calls : ℕ → check-expression-lts.Claims
 check-expression-calls t = (expression-at-reads.Asked, expression-at-reads.Learnt, check-single-reads.Asked, check-single-reads.Learnt, link-reads.Asked, link-reads.Learnt, check-slots-below t, check-slots.Post)
 
 abbrev check-slots-calls : ℕ → check-slots-lts.Claims
-check-slots-calls t = (check-expression-below t, check-expression.Post, slot-after-reads.Asked, slot-after-reads.Learnt)
+check-slots-calls t = (expression-kind-reads.Asked, expression-kind-reads.Learnt, check-operand-reads.Asked, check-operand-reads.Learnt, slot-after-reads.Asked, slot-after-reads.Learnt, check-expression-below t, check-expression.Post)
 
 check-expression-expression-at-requires :
     (t : ℕ) → check-expression-lts.Need-expression-at-requires (check-expression-calls t) (check-expression-at t) check-expression.Post
@@ -86,17 +88,17 @@ check-slots-μ-loop p l h t from z₀ z = slots-measure z
 check-slots-loop-holds : (t : ℕ) → check-slots-lts.Need-loop-holds (check-slots-calls t) (check-slots-at t) check-slots.Post check-slots-Inv-loop check-slots-μ-loop
 check-slots-loop-holds t c = search slots-start
 
-check-slots-sub-check-expression : (t : ℕ) → check-slots-lts.Need-sub-check-expression (check-slots-calls t) (check-slots-at t) check-slots.Post check-slots-Inv-loop check-slots-μ-loop
-check-slots-sub-check-expression t c = omega arith
+check-slots-sub-y : (t : ℕ) → check-slots-lts.Need-sub-y (check-slots-calls t) (check-slots-at t) check-slots.Post check-slots-Inv-loop check-slots-μ-loop
+check-slots-sub-y t c = omega arith
 
-check-slots-check-expression-requires : (t : ℕ) → check-slots-lts.Need-check-expression-requires (check-slots-calls t) (check-slots-at t) check-slots.Post check-slots-Inv-loop check-slots-μ-loop
-check-slots-check-expression-requires t c κs = (search slot-falls, search slot-expression)
+check-slots-expression-kind-requires : (t : ℕ) → check-slots-lts.Need-expression-kind-requires (check-slots-calls t) (check-slots-at t) check-slots.Post check-slots-Inv-loop check-slots-μ-loop
+check-slots-expression-kind-requires t c κs = search needs
+
+check-slots-check-operand-requires : (t : ℕ) → check-slots-lts.Need-check-operand-requires (check-slots-calls t) (check-slots-at t) check-slots.Post check-slots-Inv-loop check-slots-μ-loop
+check-slots-check-operand-requires t c κs = search needs
 
 check-slots-returns : (t : ℕ) → check-slots-lts.Need-returns (check-slots-calls t) (check-slots-at t) check-slots.Post check-slots-Inv-loop check-slots-μ-loop
-check-slots-returns t c = search slots-met
-
-check-slots-sub-slot-after : (t : ℕ) → check-slots-lts.Need-sub-slot-after (check-slots-calls t) (check-slots-at t) check-slots.Post check-slots-Inv-loop check-slots-μ-loop
-check-slots-sub-slot-after t c = omega arith
+check-slots-returns t c = search base-met
 
 check-slots-slot-after-requires : (t : ℕ) → check-slots-lts.Need-slot-after-requires (check-slots-calls t) (check-slots-at t) check-slots.Post check-slots-Inv-loop check-slots-μ-loop
 check-slots-slot-after-requires t c κs = search needs
@@ -105,10 +107,25 @@ check-slots-loop-less : (t : ℕ) → check-slots-lts.Need-loop-less (check-slot
 check-slots-loop-less t c = search next-falls
 
 check-slots-loop-again : (t : ℕ) → check-slots-lts.Need-loop-again (check-slots-calls t) (check-slots-at t) check-slots.Post check-slots-Inv-loop check-slots-μ-loop
-check-slots-loop-again t c = search slots-again
+check-slots-loop-again t c = search base-again
+
+check-slots-check-expression-requires : (t : ℕ) → check-slots-lts.Need-check-expression-requires (check-slots-calls t) (check-slots-at t) check-slots.Post check-slots-Inv-loop check-slots-μ-loop
+check-slots-check-expression-requires t c κs = (search slot-falls, search slot-expression)
 
 check-slots-returns-2 : (t : ℕ) → check-slots-lts.Need-returns-2 (check-slots-calls t) (check-slots-at t) check-slots.Post check-slots-Inv-loop check-slots-μ-loop
-check-slots-returns-2 t c = search slots-none
+check-slots-returns-2 t c = search slots-met
+
+check-slots-slot-after-requires-2 : (t : ℕ) → check-slots-lts.Need-slot-after-requires-2 (check-slots-calls t) (check-slots-at t) check-slots.Post check-slots-Inv-loop check-slots-μ-loop
+check-slots-slot-after-requires-2 t c κs = search needs
+
+check-slots-loop-less-2 : (t : ℕ) → check-slots-lts.Need-loop-less-2 (check-slots-calls t) (check-slots-at t) check-slots.Post check-slots-Inv-loop check-slots-μ-loop
+check-slots-loop-less-2 t c = search next-falls
+
+check-slots-loop-again-2 : (t : ℕ) → check-slots-lts.Need-loop-again-2 (check-slots-calls t) (check-slots-at t) check-slots.Post check-slots-Inv-loop check-slots-μ-loop
+check-slots-loop-again-2 t c = search slots-again
+
+check-slots-returns-3 : (t : ℕ) → check-slots-lts.Need-returns-3 (check-slots-calls t) (check-slots-at t) check-slots.Post check-slots-Inv-loop check-slots-μ-loop
+check-slots-returns-3 t c = search slots-none
 
 pub +check-expression+check-slots-spec : {M : Type 1} → statement M
 +check-expression+check-slots-spec =
@@ -128,11 +145,16 @@ pub +check-expression+check-slots-spec : {M : Type 1} → statement M
     check-slots-Inv-loop
     check-slots-μ-loop
     (check-slots-loop-holds t)
-    (check-slots-sub-check-expression t)
-    (check-slots-check-expression-requires t)
+    (check-slots-sub-y t)
+    (check-slots-expression-kind-requires t)
+    (check-slots-check-operand-requires t)
     (check-slots-returns t)
-    (check-slots-sub-slot-after t)
     (check-slots-slot-after-requires t)
     (check-slots-loop-less t)
     (check-slots-loop-again t)
+    (check-slots-check-expression-requires t)
     (check-slots-returns-2 t)
+    (check-slots-slot-after-requires-2 t)
+    (check-slots-loop-less-2 t)
+    (check-slots-loop-again-2 t)
+    (check-slots-returns-3 t)

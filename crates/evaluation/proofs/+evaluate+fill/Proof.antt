@@ -1,7 +1,7 @@
 use native.Mathlib.Omega.{arith}
 use borrow.Author.Needs.{needs}
 use Rattle.evaluation.proofs.Laws.{slots-left, evaluate-flat, evaluate-can-fill, evaluate-full, evaluate-falls, evaluate-frame}
-use Rattle.evaluation.proofs.Laws.{Filling, fill-start, fill-size, fill-text-size, fill-done, fill-can-evaluate, fill-full, fill-falls, fill-less, fill-again}
+use Rattle.evaluation.proofs.Laws.{Filling, fill-start, fill-size, fill-text-size, fill-done, fill-can-evaluate, fill-full, fill-falls, fill-less, fill-again, base-less, base-again}
 use Prim.Native.Nat.{ℕ, _<_, _-_, _*_}
 use borrow.Fn.Kinds.{In}
 use borrow.Fn.PlainCycle.{Measures, is, falls, and}
@@ -16,6 +16,8 @@ use Rattle.evaluation.proofs.flat.Reads as flat-reads
 use Rattle.heap.proofs.add_slot.Reads as add-slot-reads
 use Rattle.tables.proofs.expression_at.Reads as expression-at-reads
 use Rattle.tables.proofs.link.Reads as link-reads
+use Rattle.tables.proofs.expression_kind.Reads as expression-kind-reads
+use Rattle.producing.proofs.given.Reads as given-reads
 use Rattle.tables.proofs.slot_after.Reads as slot-after-reads
 use Rattle.tables.proofs.slot_name.Reads as slot-name-reads
 use Rattle.evaluation.proofs.+evaluate+fill.{statement}
@@ -44,7 +46,7 @@ abbrev evaluate-calls : ℕ → evaluate-lts.Claims
 evaluate-calls t = (expression-at-reads.Asked, expression-at-reads.Learnt, flat-reads.Asked, flat-reads.Learnt, claim-reads.Asked, claim-reads.Learnt, link-reads.Asked, link-reads.Learnt, fill-below t, fill.Post)
 
 abbrev fill-calls : ℕ → fill-lts.Claims
-fill-calls t = (evaluate-below t, evaluate.Post, slot-name-reads.Asked, slot-name-reads.Learnt, add-slot-reads.Asked, add-slot-reads.Learnt, slot-after-reads.Asked, slot-after-reads.Learnt)
+fill-calls t = (expression-kind-reads.Asked, expression-kind-reads.Learnt, given-reads.Asked, given-reads.Learnt, slot-name-reads.Asked, slot-name-reads.Learnt, add-slot-reads.Asked, add-slot-reads.Learnt, slot-after-reads.Asked, slot-after-reads.Learnt, evaluate-below t, evaluate.Post)
 
 evaluate-expression-at-requires : (t : ℕ) → evaluate-lts.Need-expression-at-requires (evaluate-calls t) (evaluate-at t) evaluate.Post
 evaluate-expression-at-requires t c κs = search needs
@@ -94,8 +96,11 @@ fill-loop-holds t c = search fill-start
 fill-sub-y : (t : ℕ) → fill-lts.Need-sub-y (fill-calls t) (fill-at t) fill.Post fill-Inv-loop fill-μ-loop
 fill-sub-y t c = omega arith
 
-fill-evaluate-requires : (t : ℕ) → fill-lts.Need-evaluate-requires (fill-calls t) (fill-at t) fill.Post fill-Inv-loop fill-μ-loop
-fill-evaluate-requires t c κs = (search fill-falls, (search fill-can-evaluate, search fill-full))
+fill-expression-kind-requires : (t : ℕ) → fill-lts.Need-expression-kind-requires (fill-calls t) (fill-at t) fill.Post fill-Inv-loop fill-μ-loop
+fill-expression-kind-requires t c κs = search needs
+
+fill-given-requires : (t : ℕ) → fill-lts.Need-given-requires (fill-calls t) (fill-at t) fill.Post fill-Inv-loop fill-μ-loop
+fill-given-requires t c κs = search needs
 
 fill-slot-name-requires : (t : ℕ) → fill-lts.Need-slot-name-requires (fill-calls t) (fill-at t) fill.Post fill-Inv-loop fill-μ-loop
 fill-slot-name-requires t c κs = search needs
@@ -107,10 +112,28 @@ fill-slot-after-requires : (t : ℕ) → fill-lts.Need-slot-after-requires (fill
 fill-slot-after-requires t c κs = search needs
 
 fill-loop-less : (t : ℕ) → fill-lts.Need-loop-less (fill-calls t) (fill-at t) fill.Post fill-Inv-loop fill-μ-loop
-fill-loop-less t c = fill-less _ _ _ _ _ _ _ _ _ _ _ (c .before .before .before .before .before .before .before .before .before .before .before .before .before .before .loop .inv) (c .before .before .before .before .before .before .before .before .before .before .before .before .before .loop-test .taken) _ _ _ (c .before .before .before .before .before .before .before .before .before .before .evaluate .ensures) _ (c .before .before .before .before .slot-name .ensures) _ (c .before .before .before .add-slot .ensures) _ (c .slot-after .ensures)
+fill-loop-less t c = search base-less
 
 fill-loop-again : (t : ℕ) → fill-lts.Need-loop-again (fill-calls t) (fill-at t) fill.Post fill-Inv-loop fill-μ-loop
-fill-loop-again t c = fill-again _ _ _ _ _ _ _ _ _ _ _ (c .before .before .before .before .before .before .before .before .before .before .before .before .before .before .loop .inv) (c .before .before .before .before .before .before .before .before .before .before .before .before .before .loop-test .taken) _ _ _ (c .before .before .before .before .before .before .before .before .before .before .evaluate .ensures) _ (c .before .before .before .before .slot-name .ensures) _ (c .before .before .before .add-slot .ensures) _ (c .slot-after .ensures)
+fill-loop-again t c = search base-again
+
+fill-evaluate-requires : (t : ℕ) → fill-lts.Need-evaluate-requires (fill-calls t) (fill-at t) fill.Post fill-Inv-loop fill-μ-loop
+fill-evaluate-requires t c κs = (search fill-falls, (search fill-can-evaluate, search fill-full))
+
+fill-slot-name-requires-2 : (t : ℕ) → fill-lts.Need-slot-name-requires-2 (fill-calls t) (fill-at t) fill.Post fill-Inv-loop fill-μ-loop
+fill-slot-name-requires-2 t c κs = search needs
+
+fill-add-slot-requires-2 : (t : ℕ) → fill-lts.Need-add-slot-requires-2 (fill-calls t) (fill-at t) fill.Post fill-Inv-loop fill-μ-loop
+fill-add-slot-requires-2 t c κs = search needs
+
+fill-slot-after-requires-2 : (t : ℕ) → fill-lts.Need-slot-after-requires-2 (fill-calls t) (fill-at t) fill.Post fill-Inv-loop fill-μ-loop
+fill-slot-after-requires-2 t c κs = search needs
+
+fill-loop-less-2 : (t : ℕ) → fill-lts.Need-loop-less-2 (fill-calls t) (fill-at t) fill.Post fill-Inv-loop fill-μ-loop
+fill-loop-less-2 t c = fill-less _ _ _ _ _ _ _ _ _ _ _ (c .before .before .before .before .before .before .before .before .before .before .before .before .before .before .before .before .loop .inv) (c .before .before .before .before .before .before .before .before .before .before .before .before .before .before .before .loop-test .taken) _ _ _ (c .before .before .before .before .before .before .before .before .before .before .evaluate .ensures) _ (c .before .before .before .before .slot-name2 .ensures) _ (c .before .before .before .add-slot2 .ensures) _ (c .slot-after2 .ensures)
+
+fill-loop-again-2 : (t : ℕ) → fill-lts.Need-loop-again-2 (fill-calls t) (fill-at t) fill.Post fill-Inv-loop fill-μ-loop
+fill-loop-again-2 t c = fill-again _ _ _ _ _ _ _ _ _ _ _ (c .before .before .before .before .before .before .before .before .before .before .before .before .before .before .before .before .loop .inv) (c .before .before .before .before .before .before .before .before .before .before .before .before .before .before .before .loop-test .taken) _ _ _ (c .before .before .before .before .before .before .before .before .before .before .evaluate .ensures) _ (c .before .before .before .before .slot-name2 .ensures) _ (c .before .before .before .add-slot2 .ensures) _ (c .slot-after2 .ensures)
 
 fill-same-length : (t : ℕ) → fill-lts.Need-same-length (fill-calls t) (fill-at t) fill.Post fill-Inv-loop fill-μ-loop
 fill-same-length t c = search fill-size
@@ -144,12 +167,19 @@ pub +evaluate+fill-spec : {M : Type 1} → statement M
     fill-μ-loop
     (fill-loop-holds t)
     (fill-sub-y t)
-    (fill-evaluate-requires t)
+    (fill-expression-kind-requires t)
+    (fill-given-requires t)
     (fill-slot-name-requires t)
     (fill-add-slot-requires t)
     (fill-slot-after-requires t)
     (fill-loop-less t)
     (fill-loop-again t)
+    (fill-evaluate-requires t)
+    (fill-slot-name-requires-2 t)
+    (fill-add-slot-requires-2 t)
+    (fill-slot-after-requires-2 t)
+    (fill-loop-less-2 t)
+    (fill-loop-again-2 t)
     (fill-same-length t)
     (fill-same-length-2 t)
     (fill-returns t)

@@ -17,6 +17,6 @@ pub write-join-spec : {M : Type 1} → statement M
 write-join-spec =
     tie.close
     (tie.spec
-    (λ c κs. search needs) (λ c κs. search needs) (λ c κs. search needs) (λ c κs. search needs) (λ c. search needs)
+    (λ c κs. search needs)
     returns (λ c. search needs) (λ c κs. search needs) (λ c κs. search needs) (λ c. search needs) (λ c. search needs)
     slice-aggregate-write (λ c κs. search needs) (λ c. search needs) returns-2)

@@ -1,7 +1,9 @@
 use native.Mathlib.Omega.{arith}
+use mathlib.Core.Path.{_∙_}
+use mathlib.Core.Logic.{⊎-elim}
 use borrow.Author.Needs.{needs}
 use Rattle.places.specs.Places.{expression-measure, slots-measure}
-use Rattle.needs.proofs.Laws.{frame-slots, frame-falls, made-frame, made-other, sign-few, Counted, counted-none, counted-all, slot-expression, slot-falls, next-falls, counted-more}
+use Rattle.needs.proofs.Laws.{frame-slots, frame-falls, made-frame, made-other, sign-few, Counted, counted-none, counted-all, slot-expression, slot-falls, next-falls, counted-more, counted-skip}
 use Prim.Native.Nat.{ℕ, _<_}
 use borrow.Fn.Kinds.{In}
 use borrow.Fn.PlainCycle.{Measures, is, falls, and}
@@ -14,6 +16,7 @@ use Rattle.needs.proofs.+made_in+made_of.Lts-made_of as made-of-lts
 use Rattle.needs.proofs.join_sign.Reads as join-sign-reads
 use Rattle.needs.proofs.plus.Reads as plus-reads
 use Rattle.tables.proofs.expression_at.Reads as expression-at-reads
+use Rattle.tables.proofs.expression_kind.Reads as expression-kind-reads
 use Rattle.tables.proofs.link.Reads as link-reads
 use Rattle.tables.proofs.slot_after.Reads as slot-after-reads
 use Rattle.needs.proofs.+made_in+made_of.{statement}
@@ -38,7 +41,7 @@ abbrev made-of-below : ℕ → In 1 made-of-kinds.ps
 made-of-below t = and 1 made-of-kinds.ps (falls 1 made-of-kinds.ps _<_ μ-made-of t) made-of.Pre
 
 abbrev made-in-calls : ℕ → made-in-lts.Claims
-made-in-calls t = (made-of-below t, made-of.Post, plus-reads.Asked, plus-reads.Learnt, slot-after-reads.Asked, slot-after-reads.Learnt)
+made-in-calls t = (expression-kind-reads.Asked, expression-kind-reads.Learnt, made-of-below t, made-of.Post, plus-reads.Asked, plus-reads.Learnt, slot-after-reads.Asked, slot-after-reads.Learnt)
 
 abbrev made-of-calls : ℕ → made-of-lts.Claims
 made-of-calls t = (expression-at-reads.Asked, expression-at-reads.Learnt, join-sign-reads.Asked, join-sign-reads.Learnt, link-reads.Asked, link-reads.Learnt, made-in-below t, made-in.Post, plus-reads.Asked, plus-reads.Learnt)
@@ -52,17 +55,17 @@ made-in-μ-loop p from n₀ z₀ n z = slots-measure z
 made-in-loop-holds : (t : ℕ) → made-in-lts.Need-loop-holds (made-in-calls t) (made-in-at t) made-in.Post made-in-Inv-loop made-in-μ-loop
 made-in-loop-holds t c = search counted-none
 
-made-in-sub-made-of : (t : ℕ) → made-in-lts.Need-sub-made-of (made-in-calls t) (made-in-at t) made-in.Post made-in-Inv-loop made-in-μ-loop
-made-in-sub-made-of t c = omega arith
+made-in-sub-y : (t : ℕ) → made-in-lts.Need-sub-y (made-in-calls t) (made-in-at t) made-in.Post made-in-Inv-loop made-in-μ-loop
+made-in-sub-y t c = omega arith
+
+made-in-expression-kind-requires : (t : ℕ) → made-in-lts.Need-expression-kind-requires (made-in-calls t) (made-in-at t) made-in.Post made-in-Inv-loop made-in-μ-loop
+made-in-expression-kind-requires t c κs = search needs
 
 made-in-made-of-requires : (t : ℕ) → made-in-lts.Need-made-of-requires (made-in-calls t) (made-in-at t) made-in.Post made-in-Inv-loop made-in-μ-loop
 made-in-made-of-requires t c κs = (search slot-falls, search slot-expression)
 
 made-in-plus-requires : (t : ℕ) → made-in-lts.Need-plus-requires (made-in-calls t) (made-in-at t) made-in.Post made-in-Inv-loop made-in-μ-loop
 made-in-plus-requires t c κs = search needs
-
-made-in-sub-slot-after : (t : ℕ) → made-in-lts.Need-sub-slot-after (made-in-calls t) (made-in-at t) made-in.Post made-in-Inv-loop made-in-μ-loop
-made-in-sub-slot-after t c = omega arith
 
 made-in-slot-after-requires : (t : ℕ) → made-in-lts.Need-slot-after-requires (made-in-calls t) (made-in-at t) made-in.Post made-in-Inv-loop made-in-μ-loop
 made-in-slot-after-requires t c κs = search needs
@@ -71,7 +74,7 @@ made-in-loop-less : (t : ℕ) → made-in-lts.Need-loop-less (made-in-calls t) (
 made-in-loop-less t c = search next-falls
 
 made-in-loop-again : (t : ℕ) → made-in-lts.Need-loop-again (made-in-calls t) (made-in-at t) made-in.Post made-in-Inv-loop made-in-μ-loop
-made-in-loop-again t c = search counted-more
+made-in-loop-again t c = ⊎-elim (λ w. search (counted-more, w .1 .ensures, w .3 ∙ w .2 .ensures)) (λ w. search (counted-skip, w .0 .left, w .1)) (c .before .if1 .came)
 
 made-in-returns : (t : ℕ) → made-in-lts.Need-returns (made-in-calls t) (made-in-at t) made-in.Post made-in-Inv-loop made-in-μ-loop
 made-in-returns t c = search counted-all
@@ -110,10 +113,10 @@ pub +made-in+made-of-spec : {M : Type 1} → statement M
     made-in-Inv-loop
     made-in-μ-loop
     (made-in-loop-holds t)
-    (made-in-sub-made-of t)
+    (made-in-sub-y t)
+    (made-in-expression-kind-requires t)
     (made-in-made-of-requires t)
     (made-in-plus-requires t)
-    (made-in-sub-slot-after t)
     (made-in-slot-after-requires t)
     (made-in-loop-less t)
     (made-in-loop-again t)

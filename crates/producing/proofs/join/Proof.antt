@@ -27,7 +27,7 @@ add-n c = search needs
 
 -- src/lib.rt:42:5
 write-join-requires : tie.Need-write-join-requires
-write-join-requires c κs = search needs
+write-join-requires c κs = (search needs, rw (← c .before .before .before .before .shown-size .ensures, ← c .before .before .shown-size2 .ensures))
 
 -- src/lib.rt:43:5
 take-text-requires : tie.Need-take-text-requires

@@ -4,18 +4,21 @@ use lib.ListN.{length}
 use Rattle.framed.specs.Bytes.{class}
 use Rattle.token.proofs.Answers.{token-less}
 use Rattle.token_cache.specs.Cache.{Cached}
-use Rattle.scan.proofs.Laws.{Scanning, scan-start, scan-end, scan-four, scan-again, scan-small, scan-done, scan-store}
+use Rattle.scan.proofs.Laws.{Scanning, scan-start, scan-end, scan-four, scan-again, scan-small, scan-done, scan-store, scan-store-end}
 use Rattle.scan.proofs.check_tokens.Statement.{statement}
 use Rattle.scan.proofs.check_tokens.Tie as tie
 
 abbrev Inv-loop : tie.InvT-loop
-Inv-loop c₀ s at₀ depth₀ high₀ c at depth high = Scanning class s at depth high × Cached c s
+Inv-loop c₀ s t at₀ depth₀ high₀ c at depth high = Scanning class s at depth high × Cached c s
 
 abbrev μ-loop : tie.MeasureT-loop
-μ-loop c₀ s at₀ depth₀ high₀ c at depth high = length s - at
+μ-loop c₀ s t at₀ depth₀ high₀ c at depth high = length s - at
 
 loop-holds : tie.Need-loop-holds Inv-loop μ-loop
 loop-holds c = search (scan-start, needs)
+
+store-end-requires : tie.Need-store-end-requires Inv-loop μ-loop
+store-end-requires c κs = search scan-store-end
 
 returns : tie.Need-returns Inv-loop μ-loop
 returns c = search (scan-end, needs)
@@ -42,6 +45,6 @@ pub check-tokens-spec : {M : Type 1} → statement M
 check-tokens-spec =
     tie.close
     (tie.spec
-    Inv-loop μ-loop loop-holds (λ c κs. search needs) (λ c. search needs) (λ c κs. search needs) returns (λ c. search needs)
+    Inv-loop μ-loop (λ c κs. search needs) loop-holds (λ c κs. search needs) (λ c. search needs) store-end-requires (λ c κs. search needs) returns (λ c. search needs)
     returns-2 (λ c. search needs) store-requires (λ c κs. search needs) depth-after-requires loop-less loop-again (λ c κs. search needs)
     returns-3)

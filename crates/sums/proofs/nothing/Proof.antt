@@ -2,10 +2,7 @@ use borrow.Author.Needs.{needs}
 use Rattle.sums.specs.Totals.{nothing}
 use Rattle.sums.proofs.nothing.Statement.{statement}
 use Rattle.sums.proofs.nothing.Tie as tie
-use Rattle.sums.proofs.nothing.Reads as reads
-use Rattle.sums.proofs.nothing.Lts as lts
 
--- src/lib.rt:243:1
 returns : tie.Need-returns
 unfolding nothing
 returns c = search needs

@@ -1,4 +1,4 @@
-use Rattle.sums.proofs.Laws.{Tallying, tally-start, tally-end, tally-none, tally-rooms, tally-square, tally-further, tally-curly, tally-again, tally-done}
+use Rattle.sums.proofs.Laws.{Tallying, tally-start, tally-end, tally-none, tally-room, tally-again, tally-done}
 use Prim.Native.Nat.{_-_}
 use lib.ListN.{length}
 use Rattle.token.proofs.Answers.{token-less}
@@ -7,10 +7,10 @@ use Rattle.sums.proofs.sum_all.Statement.{statement}
 use Rattle.sums.proofs.sum_all.Tie as tie
 
 abbrev Inv-loop : tie.InvT-loop
-Inv-loop c s at₀ t₀ curly₀ square₀ further₀ last₀ at t curly square further last = Tallying s at t curly square further last
+Inv-loop c s at₀ t₀ last₀ at t last = Tallying s at t last
 
 abbrev μ-loop : tie.MeasureT-loop
-μ-loop c s at₀ t₀ curly₀ square₀ further₀ last₀ at t curly square further last = length s - at
+μ-loop c s at₀ t₀ last₀ at t last = length s - at
 
 loop-holds : tie.Need-loop-holds Inv-loop μ-loop
 loop-holds c = search tally-start
@@ -21,17 +21,8 @@ returns c = search tally-end
 returns-2 : tie.Need-returns-2 Inv-loop μ-loop
 returns-2 c = search tally-none
 
-added-requires : tie.Need-added-requires Inv-loop μ-loop
-added-requires c κs = search tally-rooms
-
-further-after-requires : tie.Need-further-after-requires Inv-loop μ-loop
-further-after-requires c κs = search tally-further
-
-square-after-requires : tie.Need-square-after-requires Inv-loop μ-loop
-square-after-requires c κs = search tally-square
-
-curly-after-requires : tie.Need-curly-after-requires Inv-loop μ-loop
-curly-after-requires c κs = search tally-curly
+count-requires : tie.Need-count-requires Inv-loop μ-loop
+count-requires c κs = search tally-room
 
 loop-less : tie.Need-loop-less Inv-loop μ-loop
 loop-less c = search token-less
@@ -46,5 +37,6 @@ pub sum-all-spec : {M : Type 1} → statement M
 sum-all-spec =
     tie.close
     (tie.spec
-    Inv-loop μ-loop (λ c κs. search needs) loop-holds (λ c κs. search needs) (λ c. search needs) returns (λ c. search needs) returns-2 (λ c. search needs)
-    added-requires further-after-requires square-after-requires curly-after-requires loop-less loop-again returns-3)
+    Inv-loop μ-loop (λ c κs. search needs) loop-holds (λ c κs. search needs) (λ c. search needs) (λ c κs. search needs)
+    returns (λ c. search needs) (λ c κs. search needs) returns-2 (λ c. search needs) count-requires loop-less
+    loop-again (λ c κs. search needs) returns-3)

@@ -6,10 +6,10 @@ use Rattle.tokendump.proofs.write_tokens.Statement.{statement}
 use Rattle.tokendump.proofs.write_tokens.Tie as tie
 
 abbrev Inv-loop : tie.InvT-loop
-Inv-loop s at₀ t7 at = Unit {0}
+Inv-loop s t at₀ t8 at = Unit {0}
 
 abbrev μ-loop : tie.MeasureT-loop
-μ-loop s at₀ t7 at = length s - at
+μ-loop s t at₀ t8 at = length s - at
 
 loop-holds : tie.Need-loop-holds Inv-loop μ-loop
 loop-holds c = tt
@@ -24,6 +24,6 @@ pub write-tokens-spec : {M : Type 1} → statement M
 write-tokens-spec =
     tie.close
     (tie.spec
-    Inv-loop μ-loop loop-holds (λ c κs. search needs) (λ c. search needs) (λ c. search needs) (λ c. search needs)
+    Inv-loop μ-loop (λ c κs. search needs) loop-holds (λ c κs. search needs) (λ c. search needs) (λ c. search needs) (λ c. search needs)
     (λ c. search needs) (λ c κs. search needs) (λ c. search needs) (λ c. search needs) (λ c κs. search needs)
     loop-less loop-again (λ c. search needs))
