@@ -1,5 +1,5 @@
 -- What each way through an instruction that makes nothing gives. Assumes nothing.
-use Prim.Native.Nat.{ℕ, zero, suc, _<_}
+use Prim.Native.Nat.{ℕ, _<_}
 use mathlib.Core.Path.{_≡_, refl, _∙_, sym}
 use mathlib.Core.Bool.{Bool, true, false}
 use mathlib.Core.List.{List}
@@ -10,16 +10,15 @@ use borrow.Author.Tests.{eq-eqb, ne-eqb}
 use Rattle.framed.specs.declared.Value.{Value}
 use Rattle.framed.specs.Values.{truth}
 use Rattle.framed.specs.Tree.{Instruction}
-use Rattle.framed.specs.Paths.{Path, from-self, from-program}
+use Rattle.framed.specs.Paths.{Path}
 use Rattle.framed.specs.Machine.{defined, frame-literals, join-signs, right-side}
 use Rattle.tables.specs.declared.InstructionEntry.{InstructionEntry}
-use Rattle.tables.specs.Entries.{instruction-of, instruction-at}
-use Rattle.tables.specs.Fields.{expressions, instruction-kind, instruction-a, instruction-b, instruction-c, instruction-after}
-use Rattle.program_entries.specs.Form.{InstructionForm}
+use Rattle.tables.specs.Entries.{instruction-at}
+use Rattle.tables.specs.Fields.{instruction-kind, instruction-a, instruction-b, instruction-c, instruction-after}
 use Rattle.trees.specs.Trees.{path-list}
 use Rattle.trees.specs.Held as trees
-use Rattle.trees.proofs.Held.{assign-self-held, assign-program-held, jump-held, ifeq-held}
-use Rattle.heap.specs.Words.{self-held, program-held, set-self, set-program, set-position}
+use Rattle.trees.proofs.Held.{jump-held, ifeq-held}
+use Rattle.heap.specs.Words.{set-position}
 use Rattle.state_form.proofs.Facts.{well-formed-sized}
 use Rattle.wellformed.specs.WellFormed.{limits, WellFormed}
 use Rattle.paths.specs.declared.Fetched.{Fetched}
@@ -28,15 +27,16 @@ use Rattle.texts.specs.Texts.{Readable}
 use Rattle.operands.specs.Operands.{operand-value}
 use Rattle.operand_checks.specs.OperandChecks.{jump-end}
 use Rattle.operand_checks.proofs.Laws.{ifeq-undefined, ifeq-on, ifeq-jump}
-use Rattle.checking.specs.Checking.{ChecksInstruction, assign-end}
+use Rattle.checking.specs.Checking.{ChecksInstruction}
 use Rattle.checking.proofs.Memories.{instruction-checks}
-use Rattle.checking.proofs.Laws.{assign-met, assign-put, check-self, check-program, check-jump, check-ifeq}
+use Rattle.checking.proofs.Laws.{assign-met, assign-put, check-jump, check-ifeq}
 use Rattle.producing.specs.Producing.{HasRoom, Writable}
 use Rattle.producing.proofs.Laws.{readable-from, given-some}
 use Rattle.commit.specs.Commit.{Assigns, CanJump, Jumps, CanCommit, Commits}
-use Rattle.commit.proofs.Laws.{sets-self, sets-program, puts-self, puts-program, commit-self, commit-program, commit-can-jump, commit-jumps, commit-can-ifeq, commit-ifeq-on, commit-ifeq-jumps}
+use Rattle.commit.proofs.Laws.{commit-can-jump, commit-jumps, commit-can-ifeq, commit-ifeq-on, commit-ifeq-jumps}
 use Rattle.direct.specs.declared.Given.{Given}
 use Rattle.direct.specs.Direct.{expression-given, root-of, set-root, PutsFrom, JumpsOnce, assignment, Formed, CanDo, CanDoEntry, MakesNothing, end-met, IsMade, IsEnded, Does}
+use Rattle.direct.proofs.Assignment.{assignment-entry, path-of, Assignment, root-path, sets-root, puts-root}
 use Rattle.direct.proofs.Values.{Still, GivesValue, GivesEnd, Gives, expression-gives}
 
 -- ---- By the answer
@@ -74,101 +74,43 @@ module _ (p l h t : List ℕ) (i : ℕ) (can : CanDo p l h t i) where
   commits : MakesNothing p i → CanCommit p l h t i
   commits n = record { writable = writable; there = can .there; room = rw (n .frames, n .texts) room }
 
-  form : InstructionForm p i
-  form = formed .program .entries .instruction i (can .there)
-
 -- ---- assign
 
-module _ (p l h t : List ℕ) (i j n x : ℕ) where
-  -- instruction i is `:=` of expression x along a path, which Put walks from the root
-  record Assignment (root : Value) (path : Path) : Type 0 where
-    can : CanDo p l h t i
-    tree : trees.instruction-held p i ≡ Instruction.assign path (trees.expression-held p x)
-    there : x < expressions p
-    quiet : (a : ℕ) → instruction-at p i ≡ InstructionEntry.Show a → ⊥
-    checked : (r : ℕ) → r ≡ assign-end p l h t root j n x → r ≡ end-met p l h t i
-    done : CanCommit p l h t i → (h₁ h₂ : List ℕ) → Assigns p l h t path x h₁ t → h₂ ≡ set-position h₁ (instruction-after p i) → Commits p l h t i h₂ t
+module _ (p l h t : List ℕ) (i j n x : ℕ) (can : CanDo p l h t i) (root : Value) (path : Path) (s : Assignment p l h t i j n x root path) where
+  nothing : Still p x → MakesNothing p i
+  unfolding right-side
+  nothing k = record { frames = rw (s .tree) (k .frames); texts = rw (s .tree) (k .texts) }
 
-  module _ (root : Value) (path : Path) (s : Assignment root path) where
-    nothing : Still p x → MakesNothing p i
-    unfolding right-side
-    nothing k = record { frames = rw (s .tree) (k .frames); texts = rw (s .tree) (k .texts) }
+  gives-means : (g : Given) → g ≡ expression-given p l h t x → Gives p l h t x g
+  gives-means g eg = expression-gives p l h t x (writable p l h t i can) (s .there) (room p l h t i can) g eg
 
-    gives-means : (g : Given) → g ≡ expression-given p l h t x → Gives p l h t x g
-    gives-means g eg = expression-gives p l h t x (writable p l h t i (s .can)) (s .there) (room p l h t i (s .can)) g eg
+  value-ended : (e : ℕ) → GivesEnd p l h t x e → Does p l h t i e h
+  value-ended e k = ended p l h t i e h (record {
+    nothing = nothing (k .still);
+    end = s .checked e (assign-met p l h t root j n x e (k .end) (k .some));
+    some = k .some;
+    words = refl;
+  })
 
-    value-ended : (e : ℕ) → GivesEnd p l h t x e → Does p l h t i e h
-    value-ended e k = ended p l h t i e h (record {
+  module _ (v : Value) (k : GivesValue p l h t x v) (h₀ : List ℕ) (r : ℕ) (h₁ : List ℕ) (q : PutsFrom p h h₀ root j n v r h₁) where
+    end-is : r ≡ end-met p l h t i
+    end-is = s .checked r (assign-put p l h t root j n x 0 (k .end) r refl (q .end))
+
+    put-ended : (r ≡ 0 → ⊥) → Does p l h t i r h₁
+    put-ended ne = ended p l h t i r h₁ (record {
       nothing = nothing (k .still);
-      end = s .checked e (assign-met p l h t root j n x e (k .end) (k .some));
-      some = k .some;
-      words = refl;
+      end = end-is;
+      some = ne;
+      words = rw (ne-eqb r 0 ne) at (q .words);
     })
 
-    module _ (v : Value) (k : GivesValue p l h t x v) (h₀ : List ℕ) (r : ℕ) (h₁ : List ℕ) (q : PutsFrom p h h₀ root j n v r h₁) where
-      end-is : r ≡ end-met p l h t i
-      end-is = s .checked r (assign-put p l h t root j n x 0 (k .end) r refl (q .end))
-
-      put-ended : (r ≡ 0 → ⊥) → Does p l h t i r h₁
-      put-ended ne = ended p l h t i r h₁ (record {
-        nothing = nothing (k .still);
-        end = end-is;
-        some = ne;
-        words = rw (ne-eqb r 0 ne) at (q .words);
-      })
-
-      put-made : r ≡ 0 → (h₂ : List ℕ) → Assigns p l h t path x h₁ t → h₂ ≡ set-position h₁ (instruction-after p i) → Does p l h t i 0 h₂
-      put-made z h₂ a eh = made p l h t i h₂ (record {
-        nothing = nothing (k .still);
-        end = sym z ∙ end-is;
-        no-show = s .quiet;
-        commits = s .done (commits p l h t i (s .can) (nothing (k .still))) h₁ h₂ a eh;
-      })
-
-path-of : Bool → List ℕ → Path
-path-of true ns = from-self ns
-path-of false ns = from-program ns
-
-module _ (p l h t : List ℕ) (i j n x : ℕ) where
-  self-path : CanDoEntry p l h t i (InstructionEntry.AssignSelf j n x) → Assignment p l h t i j n x (self-held h) (from-self (path-list p n j))
-  self-path at = record {
-    can = at .can;
-    tree = assign-self-held p l (formed p l h t i (at .can) .program) i (at .can .there) j n x (sym (at .entry));
-    there = form p l h t i (at .can) .self-there j n x (sym (at .entry));
-    quiet = λ a q. let e = at .entry in let z : _≡_ {A = ℕ} 0 1 = cc in omega arith;
-    checked = λ r er. check-self p l h t i (checks p l h t i (at .can)) (InstructionEntry.AssignSelf j n x) (at .entry) j n x (self-held h) r refl refl er;
-    done = λ c h₁ h₂ a eh. commit-self p l h t i c (InstructionEntry.AssignSelf j n x) (at .entry) j n x refl h₁ t h₂ a eh;
-  }
-
-  program-path : CanDoEntry p l h t i (InstructionEntry.AssignProgram j n x) → Assignment p l h t i j n x (program-held h) (from-program (path-list p n j))
-  program-path at = record {
-    can = at .can;
-    tree = assign-program-held p l (formed p l h t i (at .can) .program) i (at .can .there) j n x (sym (at .entry));
-    there = form p l h t i (at .can) .program-there j n x (sym (at .entry));
-    quiet = λ a q. let e = at .entry in let z : _≡_ {A = ℕ} 0 1 = cc in omega arith;
-    checked = λ r er. check-program p l h t i (checks p l h t i (at .can)) (InstructionEntry.AssignProgram j n x) (at .entry) j n x (program-held h) r refl refl er;
-    done = λ c h₁ h₂ a eh. commit-program p l h t i c (InstructionEntry.AssignProgram j n x) (at .entry) j n x refl h₁ t h₂ a eh;
-  }
-
-  root-path : (own : Bool) → CanDoEntry p l h t i (assignment own j n x) → Assignment p l h t i j n x (root-of own h) (path-of own (path-list p n j))
-  unfolding assignment root-of path-of
-  root-path true at = self-path at
-  root-path false at = program-path at
-
-  -- the value put there
-  module _ (v : Value) (k : GivesValue p l h t x v) (r : ℕ) (z : r ≡ 0) (h₁ : List ℕ) where
-    assigns-self : PutsFrom p h (set-self h v) (self-held h) j n v r h₁ → Dec (n ≡ 0) → Assigns p l h t (from-self (path-list p n j)) x h₁ t
-    assigns-self q (yes e) = sets-self p l h t x v h t (k .evaluates) j n e h₁ (rw (z, eq-eqb n 0 e) at (q .words))
-    assigns-self q (no ne) = puts-self p l h t x v h t (k .evaluates) j n ne (self-held h) h₁ (rw (z, ne-eqb n 0 ne) at (q .words)) refl
-
-    assigns-program : PutsFrom p h (set-program h v) (program-held h) j n v r h₁ → Dec (n ≡ 0) → Assigns p l h t (from-program (path-list p n j)) x h₁ t
-    assigns-program q (yes e) = sets-program p l h t x v h t (k .evaluates) j n e h₁ (rw (z, eq-eqb n 0 e) at (q .words))
-    assigns-program q (no ne) = puts-program p l h t x v h t (k .evaluates) j n ne (program-held h) h₁ (rw (z, ne-eqb n 0 ne) at (q .words)) refl
-
-    assigns : (own : Bool) → PutsFrom p h (set-root own h v) (root-of own h) j n v r h₁ → Assigns p l h t (path-of own (path-list p n j)) x h₁ t
-    unfolding root-of set-root path-of
-    assigns true q = assigns-self q (ℕ-discrete n 0)
-    assigns false q = assigns-program q (ℕ-discrete n 0)
+    put-made : r ≡ 0 → (h₂ : List ℕ) → Assigns p l h t path x h₁ t → h₂ ≡ set-position h₁ (instruction-after p i) → Does p l h t i 0 h₂
+    put-made z h₂ a eh = made p l h t i h₂ (record {
+      nothing = nothing (k .still);
+      end = sym z ∙ end-is;
+      no-show = s .quiet;
+      commits = s .done (commits p l h t i can (nothing (k .still))) h₁ t h₂ a eh;
+    })
 
 module _ (p l h t : List ℕ) (i : ℕ) (own : Bool) (at : CanDoEntry p l h t i (assignment own (instruction-a p i) (instruction-b p i) (instruction-c p i))) where
   pub assign-readable : Readable p l h t
@@ -177,22 +119,27 @@ module _ (p l h t : List ℕ) (i : ℕ) (own : Bool) (at : CanDoEntry p l h t i 
   module _ (x : ℕ) (ex : x ≡ instruction-c p i) (g : Given) (eg : g ≡ expression-given p l h t x) where
     pub assign-ended : (e : ℕ) → g ≡ Given.Ended e → Does p l h t i e h
     assign-ended e is =
-        let s = root-path p l h t i (instruction-a p i) (instruction-b p i) x own (rw ex at) in
-        value-ended p l h t i (instruction-a p i) (instruction-b p i) x _ _ s e (rw is at (gives-means p l h t i (instruction-a p i) (instruction-b p i) x _ _ s g eg))
+        let s = root-path p l h t i (instruction-a p i) (instruction-b p i) x (checks p l h t i (at .can)) own (rw ex (at .entry)) in
+        value-ended p l h t i (instruction-a p i) (instruction-b p i) x (at .can) _ _ s e (rw is at (gives-means p l h t i (instruction-a p i) (instruction-b p i) x (at .can) _ _ s g eg))
 
     module _ (v : Value) (is : g ≡ Given.Value v) (j n : ℕ) (ej : j ≡ instruction-a p i) (en : n ≡ instruction-b p i) (r : ℕ) (h₁ : List ℕ)
         (q : PutsFrom p h (set-root own h v) (root-of own h) j n v r h₁) where
       along : Assignment p l h t i j n x (root-of own h) (path-of own (path-list p n j))
-      along = root-path p l h t i j n x own (rw (ex, ej, en) at)
+      along = root-path p l h t i j n x (checks p l h t i (at .can)) own (rw (ex, ej, en) (at .entry))
 
       value : GivesValue p l h t x v
-      value = rw is at (gives-means p l h t i j n x _ _ along g eg)
+      value = rw is at (gives-means p l h t i j n x (at .can) _ _ along g eg)
+
+      -- the value put there
+      assigns : r ≡ 0 → Dec (n ≡ 0) → Assigns p l h t (path-of own (path-list p n j)) x h₁ t
+      assigns z (yes e) = sets-root p l h t i j n x v h t (value .evaluates) h₁ own e (rw (z, eq-eqb n 0 e) at (q .words))
+      assigns z (no ne) = puts-root p l h t i j n x v h t (value .evaluates) h₁ own ne (rw (z, ne-eqb n 0 ne) at (q .words))
 
       pub assign-put-ended : (r ≡ 0 → ⊥) → Does p l h t i r h₁
-      assign-put-ended = put-ended p l h t i j n x _ _ along v value (set-root own h v) r h₁ q
+      assign-put-ended = put-ended p l h t i j n x (at .can) _ _ along v value (set-root own h v) r h₁ q
 
       pub assign-made : r ≡ 0 → (h₂ : List ℕ) → h₂ ≡ set-position h₁ (instruction-after p i) → Does p l h t i 0 h₂
-      assign-made z h₂ eh = put-made p l h t i j n x _ _ along v value (set-root own h v) r h₁ q z h₂ (assigns p l h t i j n x v value r z h₁ own q) eh
+      assign-made z h₂ eh = put-made p l h t i j n x (at .can) _ _ along v value (set-root own h v) r h₁ q z h₂ (assigns z (ℕ-discrete n 0)) eh
 
 -- ---- Jumps
 
@@ -274,10 +221,7 @@ module _ (p l h t : List ℕ) (i a c d : ℕ) (can : CanDoEntry p l h t i (Instr
 
 module _ (p l h t : List ℕ) (i : ℕ) (can : CanDo p l h t i) where
   pub at-assignment : (k : ℕ) → k ≡ instruction-kind p i → k < 2 → CanDoEntry p l h t i (assignment (eqb k 0) (instruction-a p i) (instruction-b p i) (instruction-c p i))
-  unfolding assignment instruction-at instruction-of
-  at-assignment zero ek lt = record { can = can; entry = rw (← ek) }
-  at-assignment (suc zero) ek lt = record { can = can; entry = rw (← ek) }
-  at-assignment (suc (suc k)) ek lt = absurd (omega arith)
+  at-assignment k ek lt = record { can = can; entry = assignment-entry p i k ek lt }
 
   pub at-ifeq : (e : InstructionEntry) → e ≡ instruction-at p i → (a c d : ℕ) → e ≡ InstructionEntry.Ifeq a c d → CanDoEntry p l h t i (InstructionEntry.Ifeq a c d)
   at-ifeq e ee a c d is = record { can = can; entry = sym is ∙ ee }

@@ -1,3 +1,5 @@
 pub mod Laws
 pub mod Values
+pub mod Assignment
 pub mod Does
+pub mod Join

@@ -16,7 +16,7 @@ use Rattle.direct.specs.Direct as direct
 use Rattle.direct.specs.Direct.{CanDo, MakesNothing, end-met, IsMade, IsEnded, Does}
 use Rattle.step.specs.declared.Shown.{Shown}
 use Rattle.step.specs.declared.Outcome.{Outcome}
-use Rattle.step.specs.Step.{frames-for, texts-for, Formed, CanStep, StepEnds, Shows, CanAttempt, Attempts}
+use Rattle.step.specs.Step.{frames-for, texts-for, Formed, CanStep, StepEnds, Shows, CanAttempt, Attempts, AttemptsQuietly}
 use Rattle.step.proofs.Reserve.{nothing-reserved}
 use Rattle.step.proofs.Ends.{can-reserve, end-of-check}
 use Rattle.step.proofs.Line.{show-none}
@@ -24,7 +24,7 @@ use Rattle.step.proofs.Known.{ended-knows, made-knows}
 use Rattle.step.proofs.Laws.{attempt-shows, attempt-ended, attempt-made}
 
 -- an entry that is no show, by its tag
-quiet : (e : InstructionEntry) → ((a : ℕ) → e ≡ InstructionEntry.Show a → ⊥) → OneOf (0 ∷ 1 ∷ 3 ∷ 4 ∷ 5 ∷ []) (tagOf the-type e)
+pub quiet : (e : InstructionEntry) → ((a : ℕ) → e ≡ InstructionEntry.Show a → ⊥) → OneOf (0 ∷ 1 ∷ 3 ∷ 4 ∷ 5 ∷ []) (tagOf the-type e)
 quiet (InstructionEntry.AssignSelf j n x) ns = hit (0 ∷ 1 ∷ 3 ∷ 4 ∷ 5 ∷ []) 0 tt
 quiet (InstructionEntry.AssignProgram j n x) ns = hit (0 ∷ 1 ∷ 3 ∷ 4 ∷ 5 ∷ []) 1 tt
 quiet (InstructionEntry.Show a) ns = absurd (ns a refl)
@@ -90,3 +90,10 @@ module _ (p l h t : List ℕ) (i : ℕ) (out : List ℕ) (used : ℕ) (can : Can
 
     pub other-attempts : (o : Outcome) (h′ t′ out′ : List ℕ) → Attempts p l h₁ t i out used o h′ t′ out′ → Attempts p l h t i out used o h′ t′ out′
     other-attempts o h′ t′ out′ a = rw (k .other is) at a
+
+    -- then as one that assigns a join
+    pub other-step : CanStep p l h₁ t i
+    other-step = other-can .step
+
+    pub other-quietly : (o : Outcome) (h′ t′ : List ℕ) → AttemptsQuietly p l h₁ t i o h′ t′ → Attempts p l h t i out used o h′ t′ out
+    other-quietly o h′ t′ a = other-attempts o h′ t′ out (a .with-output out used (can .inside))

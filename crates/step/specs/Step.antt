@@ -143,6 +143,10 @@ module _ (p l h t : List ℕ) (i : ℕ) (out : List ℕ) (used : ℕ) (r : Outco
     pub header : HeaderFormed h′ (limits p)
     pub fit : WordsFit h′
 
+-- an instruction without a line: so with every buffer, which stays as it is
+pub record AttemptsQuietly (p l h t : List ℕ) (i : ℕ) (r : Outcome) (h′ t′ : List ℕ) : Type 0 where
+  pub with-output : (out : List ℕ) (used : ℕ) → used ≤ length out → Attempts p l h t i out used r h′ t′ out
+
 -- ---- The bounded machine's state after reserve, and its run
 
 module _ (p l h t : List ℕ) (i : ℕ) where

@@ -2,10 +2,13 @@
 use allocation::Known;
 use reserving::Reserved;
 use tables::InstructionEntry;
-ghost use Rattle.step.specs.Step.{CanReserve, CanStep, StepEnds, CanShow, Shows, CanAttempt, Attempts};
+ghost use mathlib.Core.Path.{_≡_};
+ghost use mathlib.Core.Bool.{true};
+ghost use Rattle.step.specs.Step.{CanReserve, CanStep, StepEnds, CanShow, Shows, CanAttempt, Attempts, AttemptsQuietly};
 ghost use Rattle.step.specs.Step.{frames-for, texts-for};
 ghost use Rattle.allocation.specs.Known.{Knows};
 ghost use Rattle.reserving.specs.Reserving.{Reserves, Reckons};
+ghost use Rattle.direct.specs.Direct.{joins-entry};
 
 // What became of the line of an instruction: its size, where there was space for it.
 pub enum Shown {
@@ -129,7 +132,39 @@ fn in_parts(
     }
 }
 
-// The step on instruction i: the end that it gives is marked; without space for its line nothing is done; else the line is written and the instruction committed. One that makes nothing and shows nothing is done in one go.
+// The step on an instruction that assigns a join: reserve, then in one go. The end that it gives is marked; it has no line.
+fn joined(p: &[u32], l: &[u8], h: &mut [u32], t: &mut [u8], i: u32, k: Known) -> Tried
+    requires { ⌜ CanStep (now p) (now l) (now h) (now t) i ⌝ }
+    requires { ⌜ joins-entry (now p) i ≡ true ⌝ }
+    requires { ⌜ Knows (now h) 0 0 k ⌝ }
+    ensures exact { λ r. ⌜ AttemptsQuietly (now (p .entry)) (now (l .entry)) (now (h .entry)) (now (t .entry)) i (r .outcome) (now (h .exit)) (now (t .exit)) ⌝ }
+    ensures knows { λ r. ⌜ Knows (now (h .exit)) 0 0 (r .known) ⌝ }
+{
+    let s = reserve_for(p, h, i, k);
+    let full = s.end;
+    let known = s.known;
+    if full != 0 {
+        heap::set_end_mark(h, full);
+        return Tried {
+            outcome: Outcome::Ended(full),
+            known: known,
+        };
+    }
+    let met = direct::assign_join(p, l, h, t, i, known.least);
+    if met != 0 {
+        heap::set_end_mark(h, met);
+        return Tried {
+            outcome: Outcome::Ended(met),
+            known: known,
+        };
+    }
+    Tried {
+        outcome: Outcome::Made(0),
+        known: known,
+    }
+}
+
+// The step on instruction i: the end that it gives is marked; without space for its line nothing is done; else the line is written and the instruction committed. One that makes nothing and shows nothing is done in one go, and so is one that assigns a join, after reserve.
 pub fn attempt(
     p: &[u32],
     l: &[u8],
@@ -153,6 +188,9 @@ pub fn attempt(
         };
     }
     if d == 255 {
+        if direct::joins(p, i) {
+            return joined(p, l, h, t, i, k);
+        }
         return in_parts(p, l, h, t, i, out, used, k);
     }
     heap::set_end_mark(h, d);
