@@ -87,13 +87,13 @@ pub fn jump(p: &[u32], l: &[u8], h: &mut [u32], a: u32, c: u32)
     requires { ⌜ CanJump (now p) (now l) (now h) a c ⌝ }
     ensures { λ _. ⌜ Jumps (now (p .entry)) (now (l .entry)) (now (h .entry)) a c (now (h .exit)) ⌝ }
 {
-    let Fetched::Found(v) = operands::operand_tested(p, h, a) else {
+    let Fetched::Found(v) = operands::operand(p, h, a) else {
         return;
     };
     let Value::Code(k) = v else {
         return;
     };
-    let Fetched::Found(w) = operands::operand_tested(p, h, c) else {
+    let Fetched::Found(w) = operands::operand(p, h, c) else {
         return;
     };
     heap::set_self(h, w);

@@ -1,5 +1,5 @@
 -- One law for each way through the functions that give a value, put and jump. Assumes nothing.
-use Prim.Native.Nat.{ℕ, _≤_, _<_}
+use Prim.Native.Nat.{ℕ, _/_, _%_, _≤_, _<_}
 use mathlib.Core.Path.{_≡_, refl, _∙_, sym}
 use mathlib.Core.Bool.{Bool, true, false}
 use mathlib.Core.List.{List, [], _∷_}
@@ -20,7 +20,7 @@ use Rattle.framed.specs.Machine.{defined}
 use Rattle.ints.specs.Ints.{int-of}
 use Rattle.tables.specs.declared.ExpressionEntry.{ExpressionEntry}
 use Rattle.tables.specs.Entries.{expression-at}
-use Rattle.heap.specs.Words.{self-held, program-held, frame-used, slot-count-at, set-self, set-program, set-position, set-slot-value, add-slot}
+use Rattle.heap.specs.Words.{value-of, self-held, program-held, frame-used, slot-count-at, set-self, set-program, set-position, set-slot-value, add-slot}
 use Rattle.heap.specs.Held.{slots-held, frames-held, texts-held}
 use Rattle.paths.specs.declared.SlotFound.{SlotFound}
 use Rattle.paths.proofs.SlotFound.{the-type as slot-type}
@@ -32,7 +32,8 @@ use Rattle.puts.proofs.Laws.{end-past, end-free, end-found, end-room, end-full,
 use Rattle.texts.specs.Literals.{literals-held}
 use Rattle.bounded.specs.Operations.{operated}
 use Rattle.bounded.specs.Check.{slot-end}
-use Rattle.operands.specs.Operands.{operand-value}
+use Rattle.operands.specs.Operands.{operand-value, unknown, Quick}
+use Rattle.operands.proofs.Numbers.{known-found}
 use Rattle.operands.proofs.Laws.{operand-integer, operand-literal, operand-code, operand-self, operand-program}
 use Rattle.operators.specs.declared.Operated.{Operated}
 use Rattle.operators.specs.Operators as operators
@@ -103,6 +104,24 @@ module _ (p l h t : List ℕ) (k a b : ℕ) where
         pub operation-ended : (e : ℕ) → o ≡ Operated.Ended e → Given.Ended e ≡ operation-given p l h t k a b
         unfolding of-product
         operation-ended e is = rw (both, ← (eo .is), is)
+
+  -- both operands as numbers m and n
+  module _ (ne : k ≡ 12 → ⊥) (m n : ℕ) (qm : Quick p h a m) (qn : Quick p h b n) (c d : Bool) (ec : c ≡ unknown m) (ed : d ≡ unknown n) (fc : c ≡ false) (fd : d ≡ false)
+      (v w : Value) (ev : v ≡ value-of (m % 8) (m / 8 % 4294967296)) (ew : w ≡ value-of (n % 8) (n / 8 % 4294967296)) (o : Operated) (eo : operators.Operates p l h t k v w o) where
+    first-known : defined (fetched (Fetched.Found v)) ≡ operand-value p h a
+    first-known = known-found p h a m qm (sym ec ∙ fc) v ev
+
+    second-known : defined (fetched (Fetched.Found w)) ≡ operand-value p h b
+    second-known = known-found p h b n qn (sym ed ∙ fd) w ew
+
+    pub quick-integer : (z y : ℤ) → o ≡ Operated.Integer z → y ≡ z → Given.Value (Value.Int y) ≡ operation-given p l h t k a b
+    quick-integer = operation-integer ne (Fetched.Found v) first-known v refl (Fetched.Found w) second-known w refl o eo
+
+    pub quick-joined : o ≡ Operated.Joined → Given.Makes ≡ operation-given p l h t k a b
+    quick-joined = operation-joined ne (Fetched.Found v) first-known v refl (Fetched.Found w) second-known w refl o eo
+
+    pub quick-ended : (e : ℕ) → o ≡ Operated.Ended e → Given.Ended e ≡ operation-given p l h t k a b
+    quick-ended = operation-ended ne (Fetched.Found v) first-known v refl (Fetched.Found w) second-known w refl o eo
 
 -- ---- expression
 

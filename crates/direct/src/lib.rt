@@ -51,8 +51,16 @@ fn negation(p: &[u32], h: &[u32], a: u32) -> Given
     Given::Value(Value::Int(1))
 }
 
-// The operator of the kind between two bases; `#` makes a text.
-fn operation<'a>(p: &[u32], l: &'a [u8], h: &[u32], t: &'a [u8], kind: u32, a: u32, b: u32) -> Given
+// The operator of the kind between two bases; `#` makes a text. Here the operands are read with every word tested.
+fn operation_tested<'a>(
+    p: &[u32],
+    l: &'a [u8],
+    h: &[u32],
+    t: &'a [u8],
+    kind: u32,
+    a: u32,
+    b: u32,
+) -> Given
     requires { ⌜ Readable (now p) (now l) (now h) (now t) ⌝ }
     ensures { λ r. ⌜ r ≡ operation-given (now (p .entry)) (now (l .entry)) (now (h .entry)) (now (t .entry)) kind a b ⌝ }
 {
@@ -66,6 +74,29 @@ fn operation<'a>(p: &[u32], l: &'a [u8], h: &[u32], t: &'a [u8], kind: u32, a: u
         return Given::Ended(31);
     };
     match operators::operate(p, l, h, t, kind, v, w) {
+        Operated::Integer(n) => Given::Value(Value::Int(n)),
+        Operated::Joined => Given::Makes,
+        Operated::Ended(e) => Given::Ended(e),
+    }
+}
+
+// The same, where both operands are values that are read quickly.
+fn operation<'a>(p: &[u32], l: &'a [u8], h: &[u32], t: &'a [u8], kind: u32, a: u32, b: u32) -> Given
+    requires { ⌜ Readable (now p) (now l) (now h) (now t) ⌝ }
+    ensures { λ r. ⌜ r ≡ operation-given (now (p .entry)) (now (l .entry)) (now (h .entry)) (now (t .entry)) kind a b ⌝ }
+{
+    if kind == 12 {
+        return Given::Makes;
+    }
+    let v = operands::quick(p, h, a);
+    if operands::unknown(v) {
+        return operation_tested(p, l, h, t, kind, a, b);
+    }
+    let w = operands::quick(p, h, b);
+    if operands::unknown(w) {
+        return operation_tested(p, l, h, t, kind, a, b);
+    }
+    match operators::operate(p, l, h, t, kind, operands::value(v), operands::value(w)) {
         Operated::Integer(n) => Given::Value(Value::Int(n)),
         Operated::Joined => Given::Makes,
         Operated::Ended(e) => Given::Ended(e),

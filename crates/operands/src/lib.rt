@@ -1,16 +1,17 @@
 // The value of an expression that is read as a base: integers, strings and codes as they are written, paths fetched anew at each use. It reads only.
 // This is where a step spends its time. So a value on its way is one number, its tag and 8 times its number, 5 where Fetch is undefined (an enum is given back through memory), and where
-// the memories have their lengths and a word is in its range, one test stands for many.
+// the memories have their lengths and a word is in its range, one test stands for many. `quick` lends no slice on: that would store it anew.
 use framed::Text;
 use framed::Value;
 use paths::Fetched;
 use tables::ExpressionEntry;
 ghost use mathlib.Core.Path.{_≡_};
-ghost use Prim.Native.Nat.{_+_, _*_, _≤_};
+ghost use Prim.Native.Nat.{_+_, _*_, _/_, _%_, _≤_};
 ghost use lib.ListN.{length};
 ghost use Rattle.framed.specs.Machine.{defined};
+ghost use Rattle.heap.specs.Words.{value-of};
 ghost use Rattle.paths.specs.Paths.{fetched};
-ghost use Rattle.operands.specs.Operands.{operand-value, unpacked, Placed, AtPath, Walked, Quick};
+ghost use Rattle.operands.specs.Operands.{operand-value, unknown, Placed, AtPath, Walked, Quick};
 
 // The place of the slot with the name among the n slots from place a on, 0 where there is none.
 fn slot_place(h: &[u32], a: usize, n: usize, name: u32) -> usize
@@ -66,7 +67,7 @@ fn walk(p: &[u32], h: &[u32], root: usize, j: usize, n: usize) -> u64
 }
 
 // The value of expression x as a number, 5 where it is undefined; 6 where a memory has not its length or a word is not in its range.
-fn quick(p: &[u32], h: &[u32], x: u32) -> u64
+pub fn quick(p: &[u32], h: &[u32], x: u32) -> u64
     ensures { λ r. ⌜ Quick (now (p .entry)) (now (h .entry)) x r ⌝ }
 {
     if p.len() != 16384 {
@@ -116,34 +117,33 @@ pub fn operand_tested(p: &[u32], h: &[u32], x: u32) -> Fetched
     }
 }
 
-// A value as a number, 5 where there is none.
-fn pack(r: Fetched) -> u64
-    ensures { λ s. ⌜ unpacked s ≡ r ⌝ }
+// The value that a number stands for.
+pub fn value(r: u64) -> Value
+    ensures { λ v. ⌜ v ≡ value-of (r % 8) (r / 8 % 4294967296) ⌝ }
 {
-    let Fetched::Found(v) = r else {
-        return 5;
-    };
-    (heap::number_of(v) as u64) * 8 + (heap::tag_of(v) as u64)
+    heap::value_of((r % 8) as u32, (r / 8 % 4294967296) as u32)
 }
 
-// The value of expression x read as a base, as a number; 5 where it is undefined.
-pub fn operand_number(p: &[u32], h: &[u32], x: u32) -> u64
-    ensures { λ r. ⌜ defined (fetched (unpacked r)) ≡ operand-value (now (p .entry)) (now (h .entry)) x ⌝ }
+// The number stands for no value: Fetch is undefined, or it was not quick.
+pub fn unknown(r: u64) -> bool
+    ensures { λ b. ⌜ b ≡ unknown r ⌝ }
 {
-    let r = quick(p, h, x);
-    if r == 6 {
-        return pack(operand_tested(p, h, x));
+    if r == 5 {
+        return true;
     }
-    r
+    r == 6
 }
 
 // Undefined where the end is 31.
 pub fn operand(p: &[u32], h: &[u32], x: u32) -> Fetched
     ensures { λ r. ⌜ defined (fetched r) ≡ operand-value (now (p .entry)) (now (h .entry)) x ⌝ }
 {
-    let r = operand_number(p, h, x);
+    let r = quick(p, h, x);
+    if r == 6 {
+        return operand_tested(p, h, x);
+    }
     if r == 5 {
         return Fetched::Undefined;
     }
-    Fetched::Found(heap::value_of((r % 8) as u32, (r / 8 % 4294967296) as u32))
+    Fetched::Found(value(r))
 }

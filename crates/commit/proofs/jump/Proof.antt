@@ -7,11 +7,11 @@ use Rattle.commit.proofs.jump.Lts as lts
 use Rattle.commit.proofs.first_place.Reads as first-place-reads
 use Rattle.heap.proofs.set_position.Reads as set-position-reads
 use Rattle.heap.proofs.set_self.Reads as set-self-reads
-use Rattle.operands.proofs.operand_tested.Reads as operand-tested-reads
+use Rattle.operands.proofs.operand.Reads as operand-reads
 
 -- src/lib.rt:65:29
-operand-tested-requires : tie.Need-operand-tested-requires
-operand-tested-requires c κs = search needs
+operand-requires : tie.Need-operand-requires
+operand-requires c κs = search needs
 
 -- src/lib.rt:65:24
 enum-known-v : tie.Need-enum-known-v
@@ -42,8 +42,8 @@ returns-2 : tie.Need-returns-2
 returns-2 c = search jump-no-code
 
 -- src/lib.rt:71:29
-operand-tested-requires-2 : tie.Need-operand-tested-requires-2
-operand-tested-requires-2 c κs = search needs
+operand-requires-2 : tie.Need-operand-requires-2
+operand-requires-2 c κs = search needs
 
 -- src/lib.rt:71:24
 enum-known-w : tie.Need-enum-known-w
@@ -85,7 +85,7 @@ pub jump-spec : {M : Type 1} → statement M
 jump-spec =
     tie.close
     (tie.spec
-    operand-tested-requires
+    operand-requires
     enum-known-v
     enum-told
     same-length
@@ -93,7 +93,7 @@ jump-spec =
     enum-known-v-2
     same-length-2
     returns-2
-    operand-tested-requires-2
+    operand-requires-2
     enum-known-w
     enum-told-2
     same-length-3
