@@ -6,8 +6,8 @@ ghost use Rattle.allocation.specs.Known.{FullBelow, TextsFull};
 // What is known of the numbers in use: at most so many frames and made texts are, every frame below `low` is, and every made text below `least`.
 pub struct Known {
     pub frames: u32,
-    pub texts: u32,
     pub low: u32,
+    pub texts: u32,
     pub least: u32,
 }
 

@@ -1,5 +1,5 @@
 -- `:=` of a join, after reserve: the end that it meets, and that the join put at the path is what commit does. Assumes nothing.
-use Prim.Native.Nat.{ℕ, zero, suc, _+_, _≤_, _<_}
+use Prim.Native.Nat.{ℕ, zero, suc, _+_, _/_, _%_, _≤_, _<_}
 use mathlib.Core.Path.{_≡_, refl, _∙_, sym}
 use mathlib.Core.Bool.{Bool, true, false, true≢false}
 use mathlib.Core.List.{List, [], _∷_}
@@ -16,7 +16,7 @@ use Rattle.tables.specs.declared.InstructionEntry.{InstructionEntry}
 use Rattle.tables.specs.Entries.{expression-of, expression-at, instruction-at}
 use Rattle.tables.specs.Fields.{instruction-kind, instruction-a, instruction-b, instruction-c, instruction-after, expression-kind, expression-a, expression-b}
 use Rattle.trees.specs.Trees.{path-list}
-use Rattle.heap.specs.Words.{set-position}
+use Rattle.heap.specs.Words.{value-of, set-position}
 use Rattle.heap.specs.Held.{frames-held, texts-held, texts-in-use}
 use Rattle.heap.proofs.Held.{take-text-frames}
 use Rattle.allocation.specs.Allocation.{next-text}
@@ -32,7 +32,8 @@ use Rattle.joining.specs.Joining.{join-end, join-result, join-bytes}
 use Rattle.joining.proofs.Meaning.{join-means, join-fits}
 use Rattle.bounded.specs.Operations.{operated}
 use Rattle.bounded.specs.Check.{end-of, slot-end, target-end}
-use Rattle.operands.specs.Operands.{operand-value}
+use Rattle.operands.specs.Operands.{operand-value, unpacked}
+use Rattle.operands.proofs.Numbers.{number-none, number-some}
 use Rattle.operators.specs.declared.Operated.{Operated}
 use Rattle.operators.specs.Operators.{operator-of, of-join}
 use Rattle.operators.proofs.Laws.{operates-join}
@@ -129,27 +130,47 @@ module _ (p l h t : List ℕ) (i : ℕ) (can : CanAssignJoin p l h t i) (x : ℕ
   left : defined (fetched r) ≡ operand-value p h (expression-a p (instruction-c p i))
   left = rw (← ex, ← ea) er
 
-  pub join-first : r ≡ Fetched.Undefined → JoinsOnce p l h t i 31 h t
+  join-first : r ≡ Fetched.Undefined → JoinsOnce p l h t i 31 h t
   join-first e = value-ended p l h t i can 31 (checking.operation-left p l h t 12 (expression-a p (instruction-c p i)) (expression-b p (instruction-c p i)) r left e) (λ z. omega arith)
 
   module _ (v : Value) (ev : r ≡ Fetched.Found v) (b : ℕ) (eb : b ≡ expression-b p x) (q : Fetched) (eq : defined (fetched q) ≡ operand-value p h b) where
     right : defined (fetched q) ≡ operand-value p h (expression-b p (instruction-c p i))
     right = rw (← ex, ← eb) eq
 
-    pub join-second : q ≡ Fetched.Undefined → JoinsOnce p l h t i 31 h t
+    join-second : q ≡ Fetched.Undefined → JoinsOnce p l h t i 31 h t
     join-second e =
         value-ended p l h t i can 31
         (checking.operation-right p l h t 12 (expression-a p (instruction-c p i)) (expression-b p (instruction-c p i)) r left v ev q right e) (λ z. omega arith)
 
     module _ (w : Value) (ew : q ≡ Fetched.Found w) (e : ℕ) (ee : e ≡ join-end p h v w) where
-      pub join-met : (e ≡ 0 → ⊥) → JoinsOnce p l h t i e h t
+      join-met : (e ≡ 0 → ⊥) → JoinsOnce p l h t i e h t
       join-met ne =
           value-ended p l h t i can e
           (checking.operation-both p l h t 12 (expression-a p (instruction-c p i)) (expression-b p (instruction-c p i)) r left v ev q right w e ew (sym (join-is p l h t v w e ee))) ne
 
-      pub join-on : e ≡ 0 → CanPutJoin p l h t i v w
+      join-on : e ≡ 0 → CanPutJoin p l h t i v w
       unfolding defined
       join-on z = record { can = can; first = rw ev at left; second = rw ew at right; end = sym z ∙ ee }
+
+-- the operands as numbers
+module _ (p l h t : List ℕ) (i : ℕ) (can : CanAssignJoin p l h t i) (x : ℕ) (ex : x ≡ instruction-c p i) (a : ℕ) (ea : a ≡ expression-a p x)
+    (m : ℕ) (em : defined (fetched (unpacked m)) ≡ operand-value p h a) where
+  pub number-first : m ≡ 5 → JoinsOnce p l h t i 31 h t
+  number-first e = join-first p l h t i can x ex a ea Fetched.Undefined (number-none p h a m em e) refl
+
+  module _ (some : m ≡ 5 → ⊥) (b : ℕ) (eb : b ≡ expression-b p x) (n : ℕ) (en : defined (fetched (unpacked n)) ≡ operand-value p h b) where
+    pub number-second : n ≡ 5 → JoinsOnce p l h t i 31 h t
+    number-second e =
+        let v = value-of (m % 8) (m / 8 % 4294967296) in
+        join-second p l h t i can x ex a ea (Fetched.Found v) (number-some p h a m em some v refl) v refl b eb Fetched.Undefined (number-none p h b n en e) refl
+
+    module _ (both : n ≡ 5 → ⊥) (v w : Value) (ev : v ≡ value-of (m % 8) (m / 8 % 4294967296)) (ew : w ≡ value-of (n % 8) (n / 8 % 4294967296))
+        (e : ℕ) (ee : e ≡ join-end p h v w) where
+      pub number-met : (e ≡ 0 → ⊥) → JoinsOnce p l h t i e h t
+      number-met = join-met p l h t i can x ex a ea (Fetched.Found v) (number-some p h a m em some v ev) v refl b eb (Fetched.Found w) (number-some p h b n en both w ew) w refl e ee
+
+      pub number-on : e ≡ 0 → CanPutJoin p l h t i v w
+      number-on = join-on p l h t i can x ex a ea (Fetched.Found v) (number-some p h a m em some v ev) v refl b eb (Fetched.Found w) (number-some p h b n en both w ew) w refl e ee
 
 -- ---- put_join
 

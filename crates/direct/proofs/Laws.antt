@@ -32,8 +32,8 @@ use Rattle.puts.proofs.Laws.{end-past, end-free, end-found, end-room, end-full,
 use Rattle.texts.specs.Literals.{literals-held}
 use Rattle.bounded.specs.Operations.{operated}
 use Rattle.bounded.specs.Check.{slot-end}
-use Rattle.operands.specs.Operands.{operand-value, unknown, Quick}
-use Rattle.operands.proofs.Numbers.{known-found}
+use Rattle.operands.specs.Operands.{operand-value, unpacked}
+use Rattle.operands.proofs.Numbers.{number-none, number-some}
 use Rattle.operands.proofs.Laws.{operand-integer, operand-literal, operand-code, operand-self, operand-program}
 use Rattle.operators.specs.declared.Operated.{Operated}
 use Rattle.operators.specs.Operators as operators
@@ -79,12 +79,12 @@ module _ (p l h t : List ℕ) (k a b : ℕ) where
   operation-makes e = rw (eq-eqb k 12 e)
 
   module _ (ne : k ≡ 12 → ⊥) (r : Fetched) (er : defined (fetched r) ≡ operand-value p h a) where
-    pub operation-first : r ≡ Fetched.Undefined → Given.Ended 31 ≡ operation-given p l h t k a b
+    operation-first : r ≡ Fetched.Undefined → Given.Ended 31 ≡ operation-given p l h t k a b
     unfolding operation-given operation-held of-product defined M._>>=_
     operation-first e = rw (ne-eqb k 12 ne, ← er, e)
 
     module _ (v : Value) (ev : r ≡ Fetched.Found v) (q : Fetched) (eq : defined (fetched q) ≡ operand-value p h b) where
-      pub operation-second : q ≡ Fetched.Undefined → Given.Ended 31 ≡ operation-given p l h t k a b
+      operation-second : q ≡ Fetched.Undefined → Given.Ended 31 ≡ operation-given p l h t k a b
       unfolding operation-given operation-held of-product defined M._>>=_
       operation-second e = rw (ne-eqb k 12 ne, ← er, ev, ← eq, e)
 
@@ -93,35 +93,39 @@ module _ (p l h t : List ℕ) (k a b : ℕ) where
         unfolding operation-given operation-held defined M._>>=_
         both = rw (ne-eqb k 12 ne, ← er, ev, ← eq, ew)
 
-        pub operation-integer : (z y : ℤ) → o ≡ Operated.Integer z → y ≡ z → Given.Value (Value.Int y) ≡ operation-given p l h t k a b
+        operation-integer : (z y : ℤ) → o ≡ Operated.Integer z → y ≡ z → Given.Value (Value.Int y) ≡ operation-given p l h t k a b
         unfolding of-product
         operation-integer z y is ey = rw (both, ← (eo .is), is, ey)
 
-        pub operation-joined : o ≡ Operated.Joined → Given.Makes ≡ operation-given p l h t k a b
+        operation-joined : o ≡ Operated.Joined → Given.Makes ≡ operation-given p l h t k a b
         unfolding of-product
         operation-joined is = rw (both, ← (eo .is), is)
 
-        pub operation-ended : (e : ℕ) → o ≡ Operated.Ended e → Given.Ended e ≡ operation-given p l h t k a b
+        operation-ended : (e : ℕ) → o ≡ Operated.Ended e → Given.Ended e ≡ operation-given p l h t k a b
         unfolding of-product
         operation-ended e is = rw (both, ← (eo .is), is)
 
-  -- both operands as numbers m and n
-  module _ (ne : k ≡ 12 → ⊥) (m n : ℕ) (qm : Quick p h a m) (qn : Quick p h b n) (c d : Bool) (ec : c ≡ unknown m) (ed : d ≡ unknown n) (fc : c ≡ false) (fd : d ≡ false)
-      (v w : Value) (ev : v ≡ value-of (m % 8) (m / 8 % 4294967296)) (ew : w ≡ value-of (n % 8) (n / 8 % 4294967296)) (o : Operated) (eo : operators.Operates p l h t k v w o) where
-    first-known : defined (fetched (Fetched.Found v)) ≡ operand-value p h a
-    first-known = known-found p h a m qm (sym ec ∙ fc) v ev
+  -- the operands as numbers
+  module _ (ne : k ≡ 12 → ⊥) (m : ℕ) (em : defined (fetched (unpacked m)) ≡ operand-value p h a) where
+    pub number-first : m ≡ 5 → Given.Ended 31 ≡ operation-given p l h t k a b
+    number-first e = operation-first ne Fetched.Undefined (number-none p h a m em e) refl
 
-    second-known : defined (fetched (Fetched.Found w)) ≡ operand-value p h b
-    second-known = known-found p h b n qn (sym ed ∙ fd) w ew
+    module _ (some : m ≡ 5 → ⊥) (n : ℕ) (en : defined (fetched (unpacked n)) ≡ operand-value p h b) where
+      pub number-second : n ≡ 5 → Given.Ended 31 ≡ operation-given p l h t k a b
+      number-second e =
+          let v = value-of (m % 8) (m / 8 % 4294967296) in
+          operation-second ne (Fetched.Found v) (number-some p h a m em some v refl) v refl Fetched.Undefined (number-none p h b n en e) refl
 
-    pub quick-integer : (z y : ℤ) → o ≡ Operated.Integer z → y ≡ z → Given.Value (Value.Int y) ≡ operation-given p l h t k a b
-    quick-integer = operation-integer ne (Fetched.Found v) first-known v refl (Fetched.Found w) second-known w refl o eo
+      module _ (both : n ≡ 5 → ⊥) (v w : Value) (ev : v ≡ value-of (m % 8) (m / 8 % 4294967296)) (ew : w ≡ value-of (n % 8) (n / 8 % 4294967296))
+          (o : Operated) (eo : operators.Operates p l h t k v w o) where
+        pub number-integer : (z y : ℤ) → o ≡ Operated.Integer z → y ≡ z → Given.Value (Value.Int y) ≡ operation-given p l h t k a b
+        number-integer = operation-integer ne (Fetched.Found v) (number-some p h a m em some v ev) v refl (Fetched.Found w) (number-some p h b n en both w ew) w refl o eo
 
-    pub quick-joined : o ≡ Operated.Joined → Given.Makes ≡ operation-given p l h t k a b
-    quick-joined = operation-joined ne (Fetched.Found v) first-known v refl (Fetched.Found w) second-known w refl o eo
+        pub number-joined : o ≡ Operated.Joined → Given.Makes ≡ operation-given p l h t k a b
+        number-joined = operation-joined ne (Fetched.Found v) (number-some p h a m em some v ev) v refl (Fetched.Found w) (number-some p h b n en both w ew) w refl o eo
 
-    pub quick-ended : (e : ℕ) → o ≡ Operated.Ended e → Given.Ended e ≡ operation-given p l h t k a b
-    quick-ended = operation-ended ne (Fetched.Found v) first-known v refl (Fetched.Found w) second-known w refl o eo
+        pub number-ended : (e : ℕ) → o ≡ Operated.Ended e → Given.Ended e ≡ operation-given p l h t k a b
+        number-ended = operation-ended ne (Fetched.Found v) (number-some p h a m em some v ev) v refl (Fetched.Found w) (number-some p h b n en both w ew) w refl o eo
 
 -- ---- expression
 

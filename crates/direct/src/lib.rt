@@ -51,36 +51,7 @@ fn negation(p: &[u32], h: &[u32], a: u32) -> Given
     Given::Value(Value::Int(1))
 }
 
-// The operator of the kind between two bases; `#` makes a text. Here the operands are read with every word tested.
-fn operation_tested<'a>(
-    p: &[u32],
-    l: &'a [u8],
-    h: &[u32],
-    t: &'a [u8],
-    kind: u32,
-    a: u32,
-    b: u32,
-) -> Given
-    requires { ⌜ Readable (now p) (now l) (now h) (now t) ⌝ }
-    ensures { λ r. ⌜ r ≡ operation-given (now (p .entry)) (now (l .entry)) (now (h .entry)) (now (t .entry)) kind a b ⌝ }
-{
-    if kind == 12 {
-        return Given::Makes;
-    }
-    let Fetched::Found(v) = operands::operand(p, h, a) else {
-        return Given::Ended(31);
-    };
-    let Fetched::Found(w) = operands::operand(p, h, b) else {
-        return Given::Ended(31);
-    };
-    match operators::operate(p, l, h, t, kind, v, w) {
-        Operated::Integer(n) => Given::Value(Value::Int(n)),
-        Operated::Joined => Given::Makes,
-        Operated::Ended(e) => Given::Ended(e),
-    }
-}
-
-// The same, where both operands are values that are read quickly.
+// The operator of the kind between two bases; `#` makes a text.
 fn operation<'a>(p: &[u32], l: &'a [u8], h: &[u32], t: &'a [u8], kind: u32, a: u32, b: u32) -> Given
     requires { ⌜ Readable (now p) (now l) (now h) (now t) ⌝ }
     ensures { λ r. ⌜ r ≡ operation-given (now (p .entry)) (now (l .entry)) (now (h .entry)) (now (t .entry)) kind a b ⌝ }
@@ -88,13 +59,13 @@ fn operation<'a>(p: &[u32], l: &'a [u8], h: &[u32], t: &'a [u8], kind: u32, a: u
     if kind == 12 {
         return Given::Makes;
     }
-    let v = operands::quick(p, h, a);
-    if operands::unknown(v) {
-        return operation_tested(p, l, h, t, kind, a, b);
+    let v = operands::operand_number(p, h, a);
+    if v == 5 {
+        return Given::Ended(31);
     }
-    let w = operands::quick(p, h, b);
-    if operands::unknown(w) {
-        return operation_tested(p, l, h, t, kind, a, b);
+    let w = operands::operand_number(p, h, b);
+    if w == 5 {
+        return Given::Ended(31);
     }
     match operators::operate(p, l, h, t, kind, operands::value(v), operands::value(w)) {
         Operated::Integer(n) => Given::Value(Value::Int(n)),
@@ -317,12 +288,16 @@ pub fn assign_join(p: &[u32], l: &[u8], h: &mut [u32], t: &mut [u8], i: u32, lea
     ensures { λ r. ⌜ JoinsOnce (now (p .entry)) (now (l .entry)) (now (h .entry)) (now (t .entry)) i r (now (h .exit)) (now (t .exit)) ⌝ }
 {
     let x = tables::instruction_c(p, i);
-    let Fetched::Found(v) = operands::operand(p, h, tables::expression_a(p, x)) else {
+    let m = operands::operand_number(p, h, tables::expression_a(p, x));
+    if m == 5 {
         return 31;
-    };
-    let Fetched::Found(w) = operands::operand(p, h, tables::expression_b(p, x)) else {
+    }
+    let n = operands::operand_number(p, h, tables::expression_b(p, x));
+    if n == 5 {
         return 31;
-    };
+    }
+    let v = operands::value(m);
+    let w = operands::value(n);
     let met = joining::join_end(p, h, v, w);
     if met != 0 {
         return met;

@@ -20,7 +20,7 @@ use Rattle.paths.specs.Paths.{fetched, path-held}
 use Rattle.puts.specs.Puts.{target-along}
 use Rattle.trees.specs.Trees.{path-list}
 use Rattle.trees.specs.Held.{base-held}
-use Rattle.operands.specs.Operands.{operand-value, unpacked, Quick}
+use Rattle.operands.specs.Operands.{operand-value, unpacked}
 use Rattle.operands.proofs.Lists.{same-path}
 use Rattle.operand_checks.specs.OperandChecks.{names-end, put-end, jump-end, ifeq-ends}
 
@@ -36,14 +36,14 @@ module _ (p h : List ℕ) (x : ℕ) (r : Fetched) (er : defined (fetched r) ≡ 
   unfolding defined end-of
   operand-found v e = rw (← er, e)
 
-module _ (p h : List ℕ) (x n : ℕ) (q : Quick p h x n) (known : n ≡ 6 → ⊥) where
+module _ (p h : List ℕ) (x n : ℕ) (en : defined (fetched (unpacked n)) ≡ operand-value p h x) where
   pub number-undefined : n ≡ 5 → 31 ≡ end-of (operand-value p h x)
   unfolding defined end-of unpacked
-  number-undefined e = rw (← q .says known, e)
+  number-undefined e = rw (← en, e)
 
   pub number-found : (n ≡ 5 → ⊥) → 0 ≡ end-of (operand-value p h x)
   unfolding defined end-of unpacked
-  number-found ne = rw (← q .says known, ne-eqb n 5 ne)
+  number-found ne = rw (← en, ne-eqb n 5 ne)
 
 -- ---- check_put
 

@@ -10,17 +10,11 @@ ghost use Rattle.operand_checks.specs.OperandChecks.{jump-end, ifeq-ends
 pub fn check_operand(p: &[u32], h: &[u32], x: u32) -> u32
     ensures { λ r. ⌜ r ≡ end-of (operand-value (now (p .entry)) (now (h .entry)) x) ⌝ }
 {
-    let r = operands::quick(p, h, x);
-    if r == 6 {
-        let Fetched::Found(_) = operands::operand_tested(p, h, x) else {
-            return 31;
-        };
-        return 0;
+    if operands::operand_number(p, h, x) == 5 {
+        31
+    } else {
+        0
     }
-    if r == 5 {
-        return 31;
-    }
-    0
 }
 
 // Put along the n path names from j on; an empty path has no end.

@@ -1,31 +1,39 @@
--- One law for each way through the functions on numbers: `slot_place`, `walk`, `quick`, `unknown` and `operand`. Assumes nothing.
+-- One law for each way through the functions on numbers: `slot_place`, `walk`, `quick`, `pack`, `operand_number` and `operand`. Assumes nothing.
 use Prim.Native.Nat.{ℕ, zero, suc, _+_, _-_, _*_, _/_, _%_, _^_, _≤_, _<_}
-use mathlib.Core.Path.{_≡_, refl, _∙_, ap, sym}
-use mathlib.Core.Bool.{true, false, not, _||_, false≢true}
+use mathlib.Core.Path.{_≡_, refl, _∙_, ap, sym, subst}
+use mathlib.Core.Bool.{true, false, not}
 use mathlib.Core.List.{List}
 use native.Mathlib.Omega.{arith}
 use native.Mathlib.Decide.{ℕ-discrete, decLt}
-use lib.Dec.{ltb, eqb}
+use lib.Dec.{ltb}
 use mir.Syntax.{w32}
-use mir.Val.{Fits}
+use mir.Val.{Val, Fits, SFits}
+use denote.Laws.{Is}
+use denote.Enum.Declared.{row}
+use denote.Enum.Laws.{owed}
 use borrow.Author.Tests.{lt-ltb, le-ltb, eq-eqb, ne-eqb}
+use Rattle.framed.specs.declared.Text.{Text}
 use Rattle.framed.specs.declared.Value.{Value}
 use Rattle.framed.specs.Fetch.{frame-of, get, _>>=_}
 use Rattle.framed.specs.Machine.{defined}
+use Rattle.framed.proofs.Value.{the-type}
+use Rattle.framed.proofs.Value.Laws.{the-laws}
 use Rattle.words.specs.Words.{pick, word}
 use Rattle.ints.specs.Ints.{int-of}
 use Rattle.tables.specs.declared.ExpressionEntry.{ExpressionEntry}
 use Rattle.tables.specs.Fields.{path-name, expression-kind, expression-a, expression-b}
 use Rattle.tables.specs.Entries.{expression-of, expression-at}
-use Rattle.heap.specs.Words.{value-of, self-held, program-held}
+use Rattle.heap.specs.Words.{value-of, tag-of, number-of, self-held, program-held}
 use Rattle.heap.specs.Words.{frame-word, frame-used, slot-count-at, slot-name-at, slot-tag-at, slot-number-at, slot-value-at}
 use Rattle.heap.specs.Held.{slots-held, frames-held}
+use Rattle.heap.specs.Closed.{ValueFits}
+use Rattle.heap.proofs.Laws.{value-back}
 use Rattle.paths.specs.declared.SlotFound.{SlotFound}
 use Rattle.paths.specs.declared.Fetched.{Fetched}
 use Rattle.paths.specs.Paths.{slot-from, fetched}
 use Rattle.paths.proofs.Laws.{Find, find-start, find-gone, find-here, find-again, get-past, get-free, get-missing, get-found}
 use Rattle.paths.proofs.Laws.{Walk, walk-start, walk-done, walk-undefined, walk-again}
-use Rattle.operands.specs.Operands.{operand-value, unpacked, unknown, place-of, Placed, Walked, Quick}
+use Rattle.operands.specs.Operands.{operand-value, unpacked, place-of, Placed, Walked, Quick}
 use Rattle.operands.proofs.Laws.{is-integer, operand-literal, operand-self, operand-program, operand-code, operand-frame, operand-not, operand-operate, operand-bad}
 
 -- ---- Values as numbers
@@ -38,6 +46,30 @@ number-value t f le lt =
     let b : f < 2 ^ 32 = lt .fits in
     let o : f % 4294967296 ≡ f = omega arith in
     rw (ne-eqb (f * 8 + t) 5 (λ z. omega arith), m, d, o)
+
+-- ---- pack
+
+-- what the type says of a value: an integer is one of 32 bits
+typed-fits : (v : Value) (vs : List Val) → Is (row the-type) v vs → ValueFits v
+typed-fits (Value.Int z) vs is =
+    record { int = λ y e. let q : z ≡ y = cc in subst (SFits w32) q (record { sfits = owed the-type the-laws (Value.Int z) vs is .0 .1 }) }
+typed-fits (Value.Text t) vs is = record { int = λ y e. let z : _≡_ {A = ℕ} 0 1 = cc in absurd (omega arith) }
+typed-fits (Value.Code k) vs is = record { int = λ y e. let z : _≡_ {A = ℕ} 0 1 = cc in absurd (omega arith) }
+typed-fits (Value.Frame n) vs is = record { int = λ y e. let z : _≡_ {A = ℕ} 0 1 = cc in absurd (omega arith) }
+
+text-tag-small : (t : Text) → tag-of (Value.Text t) ≤ 4
+text-tag-small (Text.Literal k) = omega arith
+text-tag-small (Text.Made k) = omega arith
+
+tag-small : (v : Value) → tag-of v ≤ 4
+tag-small (Value.Int z) = omega arith
+tag-small (Value.Text t) = text-tag-small t
+tag-small (Value.Code k) = omega arith
+tag-small (Value.Frame n) = omega arith
+
+pub packed-value : (v : Value) (vs : List Val) → Is (row the-type) v vs → (r : Fetched) → r ≡ Fetched.Found v → (m t : ℕ) → m ≡ number-of v → t ≡ tag-of v → Fits w32 m → unpacked (m * 8 + t) ≡ r
+packed-value v vs is r er m t em et fits =
+    rw (er, number-value t m (rw et (tag-small v)) fits) (ap Fetched.Found (rw (em, et) (value-back v (typed-fits v vs is))))
 
 -- ---- slot_place
 
@@ -275,33 +307,27 @@ module _ (p h : List ℕ) (x w : ℕ) (ew : w ≡ x) where
         go (suc (suc (suc zero))) e l u ne = operand-program p h x (ExpressionEntry.FromProgram a b) (entry-of 3 e) a b (unpacked r) refl (rw (em, e, start, ej, en) at (s .says ne))
         go (suc (suc (suc (suc k)))) e l u ne = absurd (omega arith)
 
--- ---- operand
+-- ---- operand_number, operand
 
-module _ (p h : List ℕ) (x s : ℕ) (q : Quick p h x s) (known : s ≡ 6 → ⊥) where
-  pub unpacked-none : s ≡ 5 → defined (fetched Fetched.Undefined) ≡ operand-value p h x
-  unfolding unpacked
-  unpacked-none e = rw (eq-eqb s 5 e) at (q .says known)
+module _ (p h : List ℕ) (x : ℕ) where
+  pub number-tested : (s : ℕ) (r : Fetched) → unpacked s ≡ r → defined (fetched r) ≡ operand-value p h x → defined (fetched (unpacked s)) ≡ operand-value p h x
+  number-tested s r e er = rw e er
 
-  pub unpacked-some : (s ≡ 5 → ⊥) → (v : Value) → v ≡ value-of (s % 8) (s / 8 % 4294967296) → defined (fetched (Fetched.Found v)) ≡ operand-value p h x
-  unfolding unpacked
-  unpacked-some ne v ev = rw ev (rw (ne-eqb s 5 ne) at (q .says known))
+  pub number-quick : (s : ℕ) → Quick p h x s → (s ≡ 6 → ⊥) → defined (fetched (unpacked s)) ≡ operand-value p h x
+  number-quick s q ne = q .says ne
 
--- ---- unknown
+  module _ (s : ℕ) (es : defined (fetched (unpacked s)) ≡ operand-value p h x) where
+    pub number-none : s ≡ 5 → defined (fetched Fetched.Undefined) ≡ operand-value p h x
+    unfolding unpacked
+    number-none e = rw (eq-eqb s 5 e) at es
 
-pub unknown-undefined : (n : ℕ) → n ≡ 5 → true ≡ unknown n
-unfolding unknown
-unknown-undefined n e = rw (eq-eqb n 5 e)
+    pub number-some : (s ≡ 5 → ⊥) → (v : Value) → v ≡ value-of (s % 8) (s / 8 % 4294967296) → defined (fetched (Fetched.Found v)) ≡ operand-value p h x
+    unfolding unpacked
+    number-some ne v ev = rw ev (rw (ne-eqb s 5 ne) at es)
 
-pub unknown-other : (n : ℕ) → (n ≡ 5 → ⊥) → eqb n 6 ≡ unknown n
-unfolding unknown
-unknown-other n ne = rw (ne-eqb n 5 ne)
+  module _ (s : ℕ) (q : Quick p h x s) (known : s ≡ 6 → ⊥) where
+    pub quick-none : s ≡ 5 → defined (fetched Fetched.Undefined) ≡ operand-value p h x
+    quick-none = number-none s (q .says known)
 
--- a number that is not unknown
-pub known-found : (p h : List ℕ) (x n : ℕ) → Quick p h x n → unknown n ≡ false → (v : Value) → v ≡ value-of (n % 8) (n / 8 % 4294967296) → defined (fetched (Fetched.Found v)) ≡ operand-value p h x
-unfolding unknown
-known-found p h x n q e v ev = go (ℕ-discrete n 5) (ℕ-discrete n 6)
-  where
-    go : Dec (n ≡ 5) → Dec (n ≡ 6) → defined (fetched (Fetched.Found v)) ≡ operand-value p h x
-    go (yes a) b = absurd (false≢true (sym e ∙ rw (eq-eqb n 5 a)))
-    go (no a) (yes b) = absurd (false≢true (sym e ∙ rw (ne-eqb n 5 a, eq-eqb n 6 b)))
-    go (no a) (no b) = unpacked-some p h x n q b a v ev
+    pub quick-some : (s ≡ 5 → ⊥) → (v : Value) → v ≡ value-of (s % 8) (s / 8 % 4294967296) → defined (fetched (Fetched.Found v)) ≡ operand-value p h x
+    quick-some = number-some s (q .says known)

@@ -2,7 +2,6 @@
 use Prim.Native.Nat.{ℕ, _+_, _-_, _*_, _/_, _%_, _≤_}
 use mathlib.Core.Path.{_≡_}
 use mathlib.Core.List.{List}
-use mathlib.Core.Bool.{Bool, _||_}
 use lib.ListN.{length}
 use lib.Dec.{eqb}
 use Rattle.words.specs.Words.{pick, word}
@@ -23,10 +22,6 @@ operand-value p h x = base-value (self-held h) (program-held h) (frames-held h) 
 -- what a number stands for: the value whose tag is the number modulo 8 and whose number is the rest; 5 is undefined
 unfoldable pub unpacked : ℕ → Fetched
 unpacked n = pick (eqb n 5) Fetched.Undefined (Fetched.Found (value-of (n % 8) (n / 8 % 4294967296)))
-
--- it stands for no value: undefined, or 6
-unfoldable pub unknown : ℕ → Bool
-unknown n = eqb n 5 || eqb n 6
 
 -- the place of a slot of a frame whose slots stand from place a on, 0 where there is none
 unfoldable pub place-of : ℕ → SlotFound → ℕ

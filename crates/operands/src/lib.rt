@@ -11,7 +11,7 @@ ghost use lib.ListN.{length};
 ghost use Rattle.framed.specs.Machine.{defined};
 ghost use Rattle.heap.specs.Words.{value-of};
 ghost use Rattle.paths.specs.Paths.{fetched};
-ghost use Rattle.operands.specs.Operands.{operand-value, unknown, Placed, AtPath, Walked, Quick};
+ghost use Rattle.operands.specs.Operands.{operand-value, unpacked, Placed, AtPath, Walked, Quick};
 
 // The place of the slot with the name among the n slots from place a on, 0 where there is none.
 fn slot_place(h: &[u32], a: usize, n: usize, name: u32) -> usize
@@ -67,7 +67,7 @@ fn walk(p: &[u32], h: &[u32], root: usize, j: usize, n: usize) -> u64
 }
 
 // The value of expression x as a number, 5 where it is undefined; 6 where a memory has not its length or a word is not in its range.
-pub fn quick(p: &[u32], h: &[u32], x: u32) -> u64
+fn quick(p: &[u32], h: &[u32], x: u32) -> u64
     ensures { λ r. ⌜ Quick (now (p .entry)) (now (h .entry)) x r ⌝ }
 {
     if p.len() != 16384 {
@@ -124,14 +124,25 @@ pub fn value(r: u64) -> Value
     heap::value_of((r % 8) as u32, (r / 8 % 4294967296) as u32)
 }
 
-// The number stands for no value: Fetch is undefined, or it was not quick.
-pub fn unknown(r: u64) -> bool
-    ensures { λ b. ⌜ b ≡ unknown r ⌝ }
+// A value as a number, 5 where there is none.
+fn pack(r: Fetched) -> u64
+    ensures { λ s. ⌜ unpacked s ≡ r ⌝ }
 {
-    if r == 5 {
-        return true;
+    let Fetched::Found(v) = r else {
+        return 5;
+    };
+    (heap::number_of(v) as u64) * 8 + (heap::tag_of(v) as u64)
+}
+
+// The value of expression x read as a base, as a number; 5 where it is undefined.
+pub fn operand_number(p: &[u32], h: &[u32], x: u32) -> u64
+    ensures { λ r. ⌜ defined (fetched (unpacked r)) ≡ operand-value (now (p .entry)) (now (h .entry)) x ⌝ }
+{
+    let r = quick(p, h, x);
+    if r == 6 {
+        return pack(operand_tested(p, h, x));
     }
-    r == 6
+    r
 }
 
 // Undefined where the end is 31.

@@ -1,4 +1,4 @@
-use Rattle.direct.proofs.Join.{join-first, join-second, join-met, join-on}
+use Rattle.direct.proofs.Join.{number-first, number-second, number-met, number-on}
 use borrow.Author.Needs.{needs}
 use Rattle.direct.proofs.assign_join.Statement.{statement}
 use Rattle.direct.proofs.assign_join.Tie as tie
@@ -6,88 +6,81 @@ use Rattle.direct.proofs.assign_join.Reads as reads
 use Rattle.direct.proofs.assign_join.Lts as lts
 use Rattle.direct.proofs.put_join.Reads as put-join-reads
 use Rattle.joining.proofs.join_end.Reads as join-end-reads
-use Rattle.operands.proofs.operand.Reads as operand-reads
+use Rattle.operands.proofs.operand_number.Reads as operand-number-reads
+use Rattle.operands.proofs.value.Reads as value-reads
 use Rattle.tables.proofs.expression_a.Reads as expression-a-reads
 use Rattle.tables.proofs.expression_b.Reads as expression-b-reads
 use Rattle.tables.proofs.instruction_c.Reads as instruction-c-reads
 
--- src/lib.rt:288:9
+-- src/lib.rt:290:9
 instruction-c-requires : tie.Need-instruction-c-requires
 instruction-c-requires c κs = search needs
 
--- src/lib.rt:289:53
+-- src/lib.rt:291:44
 expression-a-requires : tie.Need-expression-a-requires
 expression-a-requires c κs = search needs
 
--- src/lib.rt:289:29
-operand-requires : tie.Need-operand-requires
-operand-requires c κs = search needs
+-- src/lib.rt:291:9
+operand-number-requires : tie.Need-operand-number-requires
+operand-number-requires c κs = search needs
 
--- src/lib.rt:289:24
-enum-known-v : tie.Need-enum-known-v
-enum-known-v c = search needs
-
--- src/lib.rt:290:9
-enum-told : tie.Need-enum-told
-enum-told c = search needs
-
--- src/lib.rt:290:9
+-- src/lib.rt:293:9
 same-length : tie.Need-same-length
 same-length c = search needs
 
--- src/lib.rt:290:9
+-- src/lib.rt:293:9
 returns : tie.Need-returns
-returns c = search join-first
+returns c = search number-first
 
--- src/lib.rt:292:53
+-- src/lib.rt:295:44
 expression-b-requires : tie.Need-expression-b-requires
 expression-b-requires c κs = search needs
 
--- src/lib.rt:292:29
-operand-requires-2 : tie.Need-operand-requires-2
-operand-requires-2 c κs = search needs
+-- src/lib.rt:295:9
+operand-number-requires-2 : tie.Need-operand-number-requires-2
+operand-number-requires-2 c κs = search needs
 
--- src/lib.rt:292:24
-enum-known-w : tie.Need-enum-known-w
-enum-known-w c = search needs
-
--- src/lib.rt:293:9
-enum-told-2 : tie.Need-enum-told-2
-enum-told-2 c = search needs
-
--- src/lib.rt:293:9
+-- src/lib.rt:297:9
 same-length-2 : tie.Need-same-length-2
 same-length-2 c = search needs
 
--- src/lib.rt:293:9
+-- src/lib.rt:297:9
 returns-2 : tie.Need-returns-2
-returns-2 c = search join-second
+returns-2 c = search number-second
 
--- src/lib.rt:295:9
+-- src/lib.rt:299:9
+value-requires : tie.Need-value-requires
+value-requires c κs = search needs
+
+-- src/lib.rt:300:9
+value-requires-2 : tie.Need-value-requires-2
+value-requires-2 c κs = search needs
+
+-- src/lib.rt:301:9
 join-end-requires : tie.Need-join-end-requires
 join-end-requires c κs = search needs
 
--- src/lib.rt:297:9
+-- src/lib.rt:303:9
 same-length-3 : tie.Need-same-length-3
 same-length-3 c = search needs
 
--- src/lib.rt:297:9
+-- src/lib.rt:303:9
 returns-3 : tie.Need-returns-3
-returns-3 c = search join-met
+returns-3 c = search number-met
 
--- src/lib.rt:299:5
+-- src/lib.rt:305:5
 put-join-requires : tie.Need-put-join-requires
-put-join-requires c κs = (join-on _ _ _ _ _ (c .before .before .before .before .before .before .before .before .before .before .before .before .before .before .before .before .before .before .before .before .before .before .pre .0) _ (c .before .before .before .before .before .before .before .before .before .before .before .before .before .before .before .before .before .instruction-c .ensures) _ (c .before .before .before .before .before .before .before .before .before .before .before .before .before .before .before .expression-a .ensures) _ (c .before .before .before .before .before .before .before .before .before .before .before .before .before .before .operand .ensures) _ (c .before .before .before .before .before .before .before .before .before .before .before .before .v .given .1) _ (c .before .before .before .before .before .before .before .before .before .expression-b .ensures) _ (c .before .before .before .before .before .before .before .before .operand2 .ensures) _ (c .before .before .before .before .before .before .w .given .1) _ (c .before .before .before .join-end .ensures) (c .before .before .if1 .left), search needs)
+put-join-requires c κs = (number-on _ _ _ _ _ (c .before .before .before .before .before .before .before .before .before .before .before .before .before .before .before .before .before .before .before .before .pre .0) _ (c .before .before .before .before .before .before .before .before .before .before .before .before .before .before .before .instruction-c .ensures) _ (c .before .before .before .before .before .before .before .before .before .before .before .before .before .expression-a .ensures) _ (c .before .before .before .before .before .before .before .before .before .before .before .before .operand-number .ensures) (c .before .before .before .before .before .before .before .before .before .before .before .if1 .left) _ (c .before .before .before .before .before .before .before .before .before .expression-b .ensures) _ (c .before .before .before .before .before .before .before .before .operand-number2 .ensures) (c .before .before .before .before .before .before .before .if2 .left) _ _ (c .before .before .before .before .before .before .value .ensures) (c .before .before .before .before .before .value2 .ensures) _ (c .before .before .before .join-end .ensures) (c .before .before .if3 .left), search needs)
 
--- src/lib.rt:283:1
+-- src/lib.rt:285:1
 same-length-4 : tie.Need-same-length-4
 same-length-4 c = search needs
 
--- src/lib.rt:283:1
+-- src/lib.rt:285:1
 same-length-5 : tie.Need-same-length-5
 same-length-5 c = search needs
 
--- src/lib.rt:283:1
+-- src/lib.rt:285:1
 returns-4 : tie.Need-returns-4
 returns-4 c = search needs
 
@@ -97,17 +90,15 @@ assign-join-spec =
     (tie.spec
     instruction-c-requires
     expression-a-requires
-    operand-requires
-    enum-known-v
-    enum-told
+    operand-number-requires
     same-length
     returns
     expression-b-requires
-    operand-requires-2
-    enum-known-w
-    enum-told-2
+    operand-number-requires-2
     same-length-2
     returns-2
+    value-requires
+    value-requires-2
     join-end-requires
     same-length-3
     returns-3
