@@ -1,6 +1,6 @@
 // The value of an expression that is read as a base: integers, strings and codes as they are written, paths fetched anew at each use. It reads only.
 // This is where a step spends its time. So a value on its way is one number, its tag and 8 times its number, 5 where Fetch is undefined (an enum is given back through memory), and where
-// the memories have their lengths and a word is in its range, one test stands for many. `quick` lends no slice on: that would store it anew.
+// the memories have their lengths and a word is in its range, one test stands for many. The parts of `quick` have no other caller, so that compiled code stores no slice anew for them.
 use framed::Text;
 use framed::Value;
 use paths::Fetched;
@@ -100,7 +100,7 @@ fn quick(p: &[u32], h: &[u32], x: u32) -> u64
 }
 
 // The value of expression x read as a base, with every word tested; undefined where the end is 31.
-pub fn operand_tested(p: &[u32], h: &[u32], x: u32) -> Fetched
+fn operand_tested(p: &[u32], h: &[u32], x: u32) -> Fetched
     ensures { λ r. ⌜ defined (fetched r) ≡ operand-value (now (p .entry)) (now (h .entry)) x ⌝ }
 {
     let e = tables::expression_at(p, x);
