@@ -19,13 +19,14 @@ use Rattle.framed.specs.Meaning.{Lengths, right-lengths, pieces, misplaced, bad
 use Rattle.framed.specs.Answers.{load-number}
 use Rattle.framed.specs.declared.LoadAnswer.{LoadAnswer}
 use Rattle.scan.specs.Scan.{tokens-refusal}
-use Rattle.names.specs.Kept.{Kept}
+use Rattle.survey.specs.Survey.{Surveyed}
+use Rattle.survey.specs.declared.Findings.{Findings}
 use Rattle.sweep.specs.Decides.{Short, Decides}
 use Rattle.grammar.specs.Runs.{OneFrame}
 use Rattle.slots.specs.Own.{bad-tree}
 use Rattle.start.specs.Find.{HasStart}
 use Rattle.limits.specs.Limits.{misplaced-tree, limit-tree, far-tree, frames-tree}
-use Rattle.check_source.specs.Numbers.{lengths, lengths-refusal, limits-refusal, Means, Numbered, KeptAt}
+use Rattle.check_source.specs.Numbers.{lengths, lengths-refusal, limits-refusal, CleanSeen, MeaningOf, Means, Numbered, KeptAt}
 
 -- ---- 1 to 3
 
@@ -206,16 +207,24 @@ module _ (s : List ℕ) (F n : ℕ) (e : n ≡ tokens-refusal (tokens class s)) 
     pub source-means : t ≡ true → (r : ℕ) → Means s F r → r ≡ source-refusal (tokens class s) F
     source-means q r m = late r (tokens class s) refl e (λ ts g. seven ts F r (parse (symbols ts)) refl (sym q ∙ h .is ts g) (λ ss f. m .is ts ss g f))
 
--- ---- The names kept
+-- ---- What is kept
 
-pub kept-not : (r : ℕ) (s b e : List ℕ) (n : ℕ) → (r ≡ 0 → ⊥) → KeptAt r s b e n
-kept-not r s b e n f = record { is = λ z. absurd (f z) }
+pub kept-not : (r : ℕ) (c s b e o : List ℕ) (n m : ℕ) → (r ≡ 0 → ⊥) → KeptAt r c s b e o n m
+kept-not r c s b e o n m f = record { is = λ z. absurd (f z) }
 
-pub kept-six : (s b e : List ℕ) (n : ℕ) → KeptAt 6 s b e n
-kept-six s b e n = kept-not 6 s b e n (λ z. omega arith)
+pub kept-six : (c s b e o : List ℕ) (n m : ℕ) → KeptAt 6 c s b e o n m
+kept-six c s b e o n m = kept-not 6 c s b e o n m (λ z. omega arith)
 
-pub kept-here : (r : ℕ) (s b e : List ℕ) (n m : ℕ) → Kept s b e m → n ≡ m → KeptAt r s b e n
-kept-here r s b e n m k q = record { is = λ z. rw q k }
+-- what a survey found
+module _ (c s b e o : List ℕ) (v : Findings) (h : Surveyed c s b e o v) where
+  pub kept-here : (r n m : ℕ) → n ≡ v .names → m ≡ v .strings → KeptAt r c s b e o n m
+  kept-here r n m en em = record { is = λ z. rw (en, em) (record { names = h .kept; led = h .led; placed = h .placed }) }
+
+  pub found-meaning : MeaningOf s v
+  found-meaning = record { totalled = h .totalled; counted = record { is = h .kept .many }; clean-seen = record { none-bad = h .clean-is } }
+
+pub not-bad : (s : List ℕ) (clean : Bool) → CleanSeen s clean → clean ≡ true → Decides bad-tree s false
+not-bad s clean h e = h .none-bad e
 
 -- ---- All
 
@@ -316,11 +325,11 @@ module _ (m : Lengths) (s : List ℕ) (F T : ℕ) where
       pub check-all : b ≡ 0 → (n : ℕ) → n ≡ source-refusal (tokens class s) F → (r : LoadAnswer) → Numbered n r → load-number r ≡ refusal m s F T
       check-all y n e r h = h .is (rw e (source-small (tokens class s) F)) ∙ e ∙ sym (passed (arguments-are ∙ y))
 
-module _ (s b e : List ℕ) (c : ℕ) (n : ℕ) (r : LoadAnswer) (h : Numbered n r) where
-  kept-refused : n ≤ 12 → (n ≡ 0 → ⊥) → KeptAt (load-number r) s b e c
-  kept-refused l f = kept-not (load-number r) s b e c (λ z. f (sym (h .is l) ∙ z))
+module _ (c s b e o : List ℕ) (i j : ℕ) (n : ℕ) (r : LoadAnswer) (h : Numbered n r) where
+  kept-refused : n ≤ 12 → (n ≡ 0 → ⊥) → KeptAt (load-number r) c s b e o i j
+  kept-refused l f = kept-not (load-number r) c s b e o i j (λ z. f (sym (h .is l) ∙ z))
 
-  pub kept-lengths : (m : Lengths) → n ≡ lengths-refusal m → (n ≡ 0 → ⊥) → KeptAt (load-number r) s b e c
+  pub kept-lengths : (m : Lengths) → n ≡ lengths-refusal m → (n ≡ 0 → ⊥) → KeptAt (load-number r) c s b e o i j
   unfolding lengths-refusal
   kept-lengths m q f = kept-refused (rw q (go (right-lengths m))) f
     where
@@ -328,8 +337,8 @@ module _ (s b e : List ℕ) (c : ℕ) (n : ℕ) (r : LoadAnswer) (h : Numbered n
       go true = omega arith
       go false = omega arith
 
-  pub kept-limits : (F T : ℕ) → n ≡ limits-refusal (length s) F T → (n ≡ 0 → ⊥) → KeptAt (load-number r) s b e c
+  pub kept-limits : (F T : ℕ) → n ≡ limits-refusal (length s) F T → (n ≡ 0 → ⊥) → KeptAt (load-number r) c s b e o i j
   kept-limits F T q f = kept-refused (rw q (limits-small (length s) F T)) f
 
-  pub kept-all : (F : ℕ) → n ≡ source-refusal (tokens class s) F → KeptAt n s b e c → KeptAt (load-number r) s b e c
+  pub kept-all : (F : ℕ) → n ≡ source-refusal (tokens class s) F → KeptAt n c s b e o i j → KeptAt (load-number r) c s b e o i j
   kept-all F q k = record { is = λ z. k .is (sym (h .is (rw q (source-small (tokens class s) F))) ∙ z) }

@@ -1,6 +1,6 @@
 -- Document 01, the table, numbers 1 to 12, in the steps in which they are decided. Assumes nothing.
 use mathlib.Core.Path.{_≡_}
-use mathlib.Core.Bool.{_&&_}
+use mathlib.Core.Bool.{Bool, true, false, _&&_}
 use mathlib.Core.List.{List}
 use mathlib.Core.Option.{some}
 use Prim.Native.Nat.{ℕ, _≤_}
@@ -14,7 +14,13 @@ use Rattle.framed.specs.Parse.{parse}
 use Rattle.framed.specs.Meaning.{Lengths, right-lengths, meaning-refusal}
 use Rattle.framed.specs.Answers.{load-number}
 use Rattle.framed.specs.declared.LoadAnswer.{LoadAnswer}
-use Rattle.names.specs.Kept.{Kept}
+use Rattle.sweep.specs.Decides.{Decides}
+use Rattle.names.specs.Kept.{Kept, Leads}
+use Rattle.strings.specs.Places.{Placed}
+use Rattle.slots.specs.Own.{bad-tree}
+use Rattle.sums.specs.Totals.{Totalled}
+use Rattle.limits.specs.Limits.{CountsNames}
+use Rattle.survey.specs.declared.Findings.{Findings}
 
 abbrev pub lengths : ℕ → ℕ → ℕ → ℕ → Lengths
 lengths program heap literal text = record { program = program; heap = heap; literal = literal; text = text }
@@ -35,6 +41,22 @@ pub record Means (s : List ℕ) (F r : ℕ) : Type 0 where
 pub record Numbered (n : ℕ) (r : LoadAnswer) : Type 0 where
   pub is : n ≤ 12 → load-number r ≡ n
 
--- where no number refuses the source, its names are kept
-pub record KeptAt (number : ℕ) (s begins ends : List ℕ) (n : ℕ) : Type 0 where
-  pub is : number ≡ 0 → Kept s begins ends n
+-- where no frame was seen to be bad there is none
+pub record CleanSeen (s : List ℕ) (clean : Bool) : Type 0 where
+  pub none-bad : clean ≡ true → Decides bad-tree s false
+
+-- what 7 to 12 ask of what was found
+pub record MeaningOf (s : List ℕ) (v : Findings) : Type 0 where
+  pub totalled : Totalled s (v .totals)
+  pub counted : CountsNames s (v .names)
+  pub clean-seen : CleanSeen s (v .clean)
+
+-- names and strings are kept
+pub record KeptAll (c s begins ends places : List ℕ) (n m : ℕ) : Type 0 where
+  pub names : Kept s begins ends n
+  pub led : Leads c s begins ends n
+  pub placed : Placed s places m
+
+-- where no number refuses the source
+pub record KeptAt (number : ℕ) (c s begins ends places : List ℕ) (n m : ℕ) : Type 0 where
+  pub is : number ≡ 0 → KeptAll c s begins ends places n m

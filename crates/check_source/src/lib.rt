@@ -1,15 +1,17 @@
-// Which of the numbers 1 to 12 refuses a source. Nothing lent is written but the cache of its tokens and its names, kept for those who write the program.
+// Which of the numbers 1 to 12 refuses a source. Nothing lent is written but the cache of its tokens, its names and the places of its strings, kept for those who write the program.
 ghost use mathlib.Core.Path.{_≡_};
 ghost use Rattle.framed.specs.Bytes.{class};
 ghost use Rattle.framed.specs.Tokens.{tokens};
 ghost use Rattle.framed.specs.Meaning.{source-refusal, refusal};
 ghost use Rattle.framed.specs.Answers.{load-number};
-ghost use Rattle.sweep.specs.Decides.{Short};
-ghost use Rattle.token_cache.specs.Cache.{Cached};
+ghost use lib.ListN.{length};
+ghost use Rattle.sweep.specs.Decides.{Short, Decides};
+ghost use Rattle.token_cache.specs.Cache.{Cached, Unnoted};
 ghost use Rattle.names.specs.Kept.{Sized};
-ghost use Rattle.limits.specs.Limits.{CountsNames};
-ghost use Rattle.check_source.specs.Numbers.{lengths, lengths-refusal, limits-refusal, Means, Numbered, KeptAt};
+ghost use Rattle.slots.specs.Own.{bad-tree};
+ghost use Rattle.check_source.specs.Numbers.{lengths, lengths-refusal, limits-refusal, CleanSeen, MeaningOf, Means, Numbered, KeptAt};
 use framed::LoadAnswer;
+use survey::Findings;
 
 // 1 where a memory has another length.
 fn lengths_refusal(program: usize, heap: usize, literal: usize, text: usize) -> u32
@@ -49,21 +51,32 @@ fn limits_refusal(length: usize, f: u32, t: u32) -> u32
     0
 }
 
-// 7 to 12, else 0.
-fn meaning_refusal(c: &[u64; 16384], s: &[u8], names: u32, f: u32) -> u32
-    requires short { ⌜ Short (now s) ⌝ }
+// Some frame has a name twice or more than 16 slots. Where none was seen to be so, they are not looked at again.
+fn bad_frame(c: &[u64; 16384], s: &[u8], clean: bool) -> bool
     requires cached { ⌜ Cached (now c) (now s) ⌝ }
-    requires counted { ⌜ CountsNames (now s) names ⌝ }
+    requires seen { ⌜ CleanSeen (now s) clean ⌝ }
+    ensures { λ r. ⌜ Decides bad-tree (now (s .entry)) r ⌝ }
+{
+    if clean {
+        return false;
+    }
+    slots::bad_frame(c, s)
+}
+
+// 7 to 12, else 0, of a source of which v was found.
+fn meaning_refusal(c: &[u64; 16384], s: &[u8], v: Findings, f: u32) -> u32
+    requires cached { ⌜ Cached (now c) (now s) ⌝ }
+    requires found { ⌜ MeaningOf (now s) v ⌝ }
     ensures { λ r. ⌜ Means (now (s .entry)) f r ⌝ }
 {
-    let t = sums::sum_all(c, s);
+    let t = v.totals;
     if limits::outside_code(s, t) {
         return 7;
     }
-    if slots::bad_frame(c, s) {
+    if bad_frame(c, s, v.clean) {
         return 8;
     }
-    if limits::above_limit(s, t, names) {
+    if limits::above_limit(s, t, v.names) {
         return 9;
     }
     if limits::far_up(s, t) {
@@ -78,31 +91,36 @@ fn meaning_refusal(c: &[u64; 16384], s: &[u8], names: u32, f: u32) -> u32
     11
 }
 
-// 4 to 12, else 0. The names are kept, with their number in `count`.
+// 4 to 12, else 0. The names and the places of strings are kept, with how many there are in `count` and `strings`.
 fn source_refusal(
     c: &mut [u64; 16384],
     s: &[u8],
     begins: &mut [usize],
     ends: &mut [usize],
     hints: &mut [u8; 4096],
+    places: &mut [usize],
     count: &mut u32,
+    strings: &mut u32,
     f: u32,
 ) -> u32
     requires short { ⌜ Short (now s) ⌝ }
     requires cached { ⌜ Cached (now c) (now s) ⌝ }
+    requires unnoted { ⌜ Unnoted (now c) ⌝ }
     requires sized { ⌜ Sized (now begins) (now ends) (now hints) ⌝ }
+    requires placed { ⌜ length (now places) ≡ 129 ⌝ }
     ensures number { λ r. ⌜ r ≡ source-refusal (tokens class (now (s .entry))) f ⌝ }
     ensures cached { λ _. ⌜ Cached (now (c .exit)) (now (s .entry)) ⌝ }
-    ensures kept { λ r. ⌜ KeptAt r (now (s .entry)) (now (begins .exit)) (now (ends .exit)) (now (count .exit)) ⌝ }
+    ensures kept { λ r. ⌜ KeptAt r (now (c .exit)) (now (s .entry)) (now (begins .exit)) (now (ends .exit)) (now (places .exit)) (now (count .exit)) (now (strings .exit)) ⌝ }
 {
-    let n = scan::check_tokens(c, s);
+    let v = survey::survey(c, s, begins, ends, hints, places);
+    *count = v.names;
+    *strings = v.strings;
+    let n = v.refusal;
     if n != 0 {
         return n;
     }
     if grammar::one_frame(c, s) {
-        let names = names::keep_names(c, s, begins, ends, hints);
-        *count = names;
-        return meaning_refusal(c, s, names, f);
+        return meaning_refusal(c, s, v, f);
     }
     6
 }
@@ -128,7 +146,7 @@ fn answer(n: u32) -> LoadAnswer
     }
 }
 
-// What load answers to these lengths of the four memories, source, F and T. The names of a source that loads are kept, with their number in `count`.
+// What load answers to these lengths of the four memories, source, F and T. The names and the places of strings of a source that loads are kept, with how many there are in `count` and `strings`.
 pub fn check(
     program: usize,
     heap: usize,
@@ -139,15 +157,19 @@ pub fn check(
     begins: &mut [usize],
     ends: &mut [usize],
     hints: &mut [u8; 4096],
+    places: &mut [usize],
     count: &mut u32,
+    strings: &mut u32,
     f: u32,
     t: u32,
 ) -> LoadAnswer
     requires cached { ⌜ Cached (now c) (now s) ⌝ }
+    requires unnoted { ⌜ Unnoted (now c) ⌝ }
     requires sized { ⌜ Sized (now begins) (now ends) (now hints) ⌝ }
+    requires placed { ⌜ length (now places) ≡ 129 ⌝ }
     ensures number { λ r. ⌜ load-number r ≡ refusal (lengths program heap literal text) (now (s .entry)) f t ⌝ }
     ensures cached { λ _. ⌜ Cached (now (c .exit)) (now (s .entry)) ⌝ }
-    ensures kept { λ r. ⌜ KeptAt (load-number r) (now (s .entry)) (now (begins .exit)) (now (ends .exit)) (now (count .exit)) ⌝ }
+    ensures kept { λ r. ⌜ KeptAt (load-number r) (now (c .exit)) (now (s .entry)) (now (begins .exit)) (now (ends .exit)) (now (places .exit)) (now (count .exit)) (now (strings .exit)) ⌝ }
 {
     let a = lengths_refusal(program, heap, literal, text);
     if a != 0 {
@@ -157,6 +179,6 @@ pub fn check(
     if b != 0 {
         return answer(b);
     }
-    let n = source_refusal(c, s, begins, ends, hints, count, f);
+    let n = source_refusal(c, s, begins, ends, hints, places, count, strings, f);
     answer(n)
 }

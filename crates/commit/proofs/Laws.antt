@@ -5,6 +5,7 @@ use mathlib.Core.List.{List, [], _∷_}
 use mathlib.Core.Bool.{Bool, true, false}
 use native.Mathlib.Omega.{arith}
 use native.Mathlib.Decide.{decLe}
+use lib.Dec.{eqb}
 use lib.ListN.{length, getD}
 use types.Run.{OneOf, miss}
 use denote.Enum.Declared.{tagOf}
@@ -18,14 +19,14 @@ use Rattle.framed.specs.Machine as M
 use Rattle.framed.specs.Machine.{Result, gives, ends, defined, base-value, code-of, right-side}
 use Rattle.tables.specs.declared.InstructionEntry.{InstructionEntry}
 use Rattle.tables.specs.Entries.{instruction-at}
-use Rattle.tables.specs.Fields.{expressions, codes, code-first, instructions, instruction-after}
+use Rattle.tables.specs.Fields.{codes, code-first, instructions, instruction-kind, instruction-a, instruction-b, instruction-c, instruction-after}
 use Rattle.program_entries.specs.Form.{InstructionForm}
 use Rattle.program_form.specs.Sound.{Sound}
 use Rattle.program_form.proofs.Decides.{sound}
 use Rattle.trees.specs.Trees.{path-list}
 use Rattle.trees.specs.Held as trees
 use Rattle.trees.specs.Held.{remaining, list-from, OneLevel}
-use Rattle.trees.proofs.Held.{one-level-held, assign-self-held, assign-program-held, show-held, jump-held, ifeq-held}
+use Rattle.trees.proofs.Held.{show-held, jump-held, ifeq-held}
 use Rattle.heap.specs.Words.{self-held, program-held, position, set-self, set-program, set-position}
 use Rattle.heap.specs.Held.{frames-held}
 use Rattle.heap.specs.Closed.{ValueFits}
@@ -45,7 +46,8 @@ use Rattle.producing.specs.Producing.{HeaderKept, Leaves, made}
 use Rattle.evaluation.specs.Evaluation.{strings, CanEvaluate, Evaluates}
 use Rattle.evaluation.proofs.Stores.{frames-are, self-kept, program-kept}
 use Rattle.evaluation.proofs.Fits.{operand-fits}
-use Rattle.commit.specs.Commit.{put-at, put-along, state-of, HeaderStays, Assigns, first-place, code-place, place-to, jump-place, CanJump, Jumps, position-by, position-after, CanCommit, Commits}
+use Rattle.commit.specs.Commit.{put-at, put-along, root-of, set-root, path-of, state-of, HeaderStays, Assigns, first-place, code-place, place-to, jump-place, CanJump, Jumps, assignment, position-by, position-after, CanCommit, Commits}
+use Rattle.commit.proofs.Assignment.{assignment-entry, no-assignment, assignment-tree, assignment-there, assignment-place}
 use Rattle.commit.proofs.Places.{code-at, place-small, after-small}
 use Rattle.commit.proofs.Headers.{kept-state, kept-stays, stays-both, self-stays, program-stays, position-stays, self-size, program-size, position-size, put-store, put-header, put-size}
 
@@ -59,6 +61,25 @@ module _ (p h : List ℕ) (root : Value) (j n : ℕ) (v : Value) (r : PutTarget)
   pub put-somewhere : (f x : ℕ) (h′ : List ℕ) → r ≡ PutTarget.At f x → h′ ≡ put-slot h f x v → h′ ≡ put-along p h root j n v
   unfolding put-along put-at
   put-somewhere f x h′ e eh = rw (← er, e) eh
+
+-- ---- root, set_root
+
+module _ (own : Bool) (h : List ℕ) where
+  pub root-self : own ≡ true → (r : Value) → r ≡ self-held h → r ≡ root-of own h
+  unfolding root-of
+  root-self e r er = rw e er
+
+  pub root-program : own ≡ false → (r : Value) → r ≡ program-held h → r ≡ root-of own h
+  unfolding root-of
+  root-program e r er = rw e er
+
+  pub sets-self-root : own ≡ true → (v : Value) (h′ : List ℕ) → h′ ≡ set-self h v → h′ ≡ set-root own h v
+  unfolding set-root
+  sets-self-root e v h′ eh = rw e eh
+
+  pub sets-program-root : own ≡ false → (v : Value) (h′ : List ℕ) → h′ ≡ set-program h v → h′ ≡ set-root own h v
+  unfolding set-root
+  sets-program-root e v h′ eh = rw e eh
 
 -- ---- assign
 
@@ -96,7 +117,7 @@ module _ (p l h t : List ℕ) (x : ℕ) (v : Value) (h₁ t₁ : List ℕ) (m : 
   after : state-of p h₁ t₁ ≡ over-store (state-of p h t) (store-held h₁ t₁)
   after = kept-state (remaining p) t t₁ (m .leaves .header)
 
-  pub sets-self : n ≡ 0 → (h₂ : List ℕ) → h₂ ≡ set-self h₁ v → Assigns p l h t (from-self (path-list p n j)) x h₂ t₁
+  sets-self : n ≡ 0 → (h₂ : List ℕ) → h₂ ≡ set-self h₁ v → Assigns p l h t (from-self (path-list p n j)) x h₂ t₁
   unfolding commit-assign state-held
   sets-self e h₂ eh = rw (eh, no-names p n j e) (record {
     state = λ rest. ap (with-remaining rest) (held-after (remaining p) h₁ t₁ size .self v (m .fits) ∙ ap (with-self v) after) ∙ rw (m .produced);
@@ -105,7 +126,7 @@ module _ (p l h t : List ℕ) (x : ℕ) (v : Value) (h₁ t₁ : List ℕ) (m : 
     text-size = m .leaves .text-size;
   })
 
-  pub sets-program : n ≡ 0 → (h₂ : List ℕ) → h₂ ≡ set-program h₁ v → Assigns p l h t (from-program (path-list p n j)) x h₂ t₁
+  sets-program : n ≡ 0 → (h₂ : List ℕ) → h₂ ≡ set-program h₁ v → Assigns p l h t (from-program (path-list p n j)) x h₂ t₁
   unfolding commit-assign state-held
   sets-program e h₂ eh = rw (eh, no-names p n j e) (record {
     state = λ rest. ap (with-remaining rest) (held-after (remaining p) h₁ t₁ size .program v (m .fits) ∙ ap (with-program v) after) ∙ rw (m .produced);
@@ -113,6 +134,11 @@ module _ (p l h t : List ℕ) (x : ℕ) (v : Value) (h₁ t₁ : List ℕ) (m : 
     size = program-size p h₁ size v;
     text-size = m .leaves .text-size;
   })
+
+  pub sets-root : (own : Bool) → n ≡ 0 → (h₂ : List ℕ) → h₂ ≡ set-root own h₁ v → Assigns p l h t (path-of own (path-list p n j)) x h₂ t₁
+  unfolding set-root path-of
+  sets-root true = sets-self
+  sets-root false = sets-program
 
   module _ (ne : n ≡ 0 → ⊥) (root : Value) (h₂ : List ℕ) (eh : h₂ ≡ put-along p h₁ root j n v) where
     abbrev where-to : Result Target
@@ -145,7 +171,7 @@ module _ (p l h t : List ℕ) (x : ℕ) (v : Value) (h₁ t₁ : List ℕ) (m : 
         rw (along-program (state-of p h t) rest (path-list p n j) value (some-names p n j ne), m .produced)
         (ap (λ (s : Memories). goes-on word-store (state-of p h t) rest (self-held h) (program-held h) s) (rw er at stored))
 
-    pub puts-self : root ≡ self-held h → Assigns p l h t (from-self (path-list p n j)) x h₂ t₁
+    puts-self : root ≡ self-held h → Assigns p l h t (from-self (path-list p n j)) x h₂ t₁
     puts-self er = record {
       state = λ rest. ap (with-remaining rest) moved ∙ go-self er rest;
       header = stays-both p (kept-stays p (m .leaves .header)) (kept-stays p kept);
@@ -153,13 +179,18 @@ module _ (p l h t : List ℕ) (x : ℕ) (v : Value) (h₁ t₁ : List ℕ) (m : 
       text-size = m .leaves .text-size;
     }
 
-    pub puts-program : root ≡ program-held h → Assigns p l h t (from-program (path-list p n j)) x h₂ t₁
+    puts-program : root ≡ program-held h → Assigns p l h t (from-program (path-list p n j)) x h₂ t₁
     puts-program er = record {
       state = λ rest. ap (with-remaining rest) moved ∙ go-program er rest;
       header = stays-both p (kept-stays p (m .leaves .header)) (kept-stays p kept);
       size = ap length eh′ ∙ put-size h₁ t₁ size where-to v;
       text-size = m .leaves .text-size;
     }
+
+    pub puts-root : (own : Bool) → root ≡ root-of own h → Assigns p l h t (path-of own (path-list p n j)) x h₂ t₁
+    unfolding root-of path-of
+    puts-root true = puts-self
+    puts-root false = puts-program
 
 -- ---- first_place
 
@@ -257,58 +288,54 @@ module _ (p l h t : List ℕ) (i : ℕ) (can : CanCommit p l h t i) where
     text-size = can .writable .text-size;
   })
 
+  -- `:=`
+  module _ (own : Bool) (j n x : ℕ) (at : assignment own j n x ≡ instruction-at p i) where
+    tree : trees.instruction-held p i ≡ Instruction.assign (path-of own (path-list p n j)) (trees.expression-held p x)
+    tree = assignment-tree p l (can .writable .program) i (can .there) own j n x at
+
+    can-assign : CanEvaluate p l h t x
+    unfolding right-side
+    can-assign = record {
+      writable = can .writable;
+      there = assignment-there p l (can .writable .program) i (can .there) own j n x at;
+      room = rw tree at (can .room);
+    }
+
+    pub commit-assigns : (h₁ t₁ h₂ : List ℕ) → Assigns p l h t (path-of own (path-list p n j)) x h₁ t₁ → h₂ ≡ set-position h₁ (instruction-after p i) → Commits p l h t i h₂ t₁
+    unfolding commit state-held
+    commit-assigns h₁ t₁ h₂ a eh = rw eh (record {
+      state = held-after (remaining p) h₁ t₁ (a .size) .position (instruction-after p i) ∙ a .state (remaining p (instruction-after p i)) ∙ rw tree;
+      position = set-position-position h₁ (a .size) (instruction-after p i) ∙ assignment-place p h i own j n x at;
+      header = stays-both p (a .header) (position-stays p h₁ (a .size) (instruction-after p i) next-small);
+      size = position-size p h₁ (a .size) (instruction-after p i);
+      text-size = a .text-size;
+    })
+
+  module _ (k : ℕ) (ek : k ≡ instruction-kind p i) (lt : k < 2) where
+    pub commit-can-assign : (x : ℕ) → x ≡ instruction-c p i → CanEvaluate p l h t x
+    commit-can-assign x ex = rw ex (can-assign (eqb k 0) (instruction-a p i) (instruction-b p i) (instruction-c p i) (assignment-entry p i k ek lt))
+
+    pub commit-assigned : (j n x : ℕ) → j ≡ instruction-a p i → n ≡ instruction-b p i → x ≡ instruction-c p i → (h₁ t₁ h₂ : List ℕ)
+        → Assigns p l h t (path-of (eqb k 0) (path-list p n j)) x h₁ t₁ → h₂ ≡ set-position h₁ (instruction-after p i) → Commits p l h t i h₂ t₁
+    commit-assigned j n x ej en ex = commit-assigns (eqb k 0) j n x (rw (ej, en, ex) (assignment-entry p i k ek lt))
+
   module _ (e : InstructionEntry) (ee : e ≡ instruction-at p i) where
     form : InstructionForm p i
     form = can .writable .program .entries .instruction i (can .there)
 
-    -- assign
-    module _ (path : Path) (x : ℕ) (tree : trees.instruction-held p i ≡ Instruction.assign path (trees.expression-held p x)) (there : x < expressions p)
-        (place : instruction-after p i ≡ position-after p h i) where
-      can-assign : CanEvaluate p l h t x
-      unfolding right-side
-      can-assign = record { writable = can .writable; there = there; room = rw tree at (can .room) }
-
-      done-assign : (h₁ t₁ h₂ : List ℕ) → Assigns p l h t path x h₁ t₁ → h₂ ≡ set-position h₁ (instruction-after p i) → Commits p l h t i h₂ t₁
-      unfolding commit state-held
-      done-assign h₁ t₁ h₂ a eh = rw eh (record {
-        state = held-after (remaining p) h₁ t₁ (a .size) .position (instruction-after p i) ∙ a .state (remaining p (instruction-after p i)) ∙ rw tree;
-        position = set-position-position h₁ (a .size) (instruction-after p i) ∙ place;
-        header = stays-both p (a .header) (position-stays p h₁ (a .size) (instruction-after p i) next-small);
-        size = position-size p h₁ (a .size) (instruction-after p i);
-        text-size = a .text-size;
-      })
-
-    module _ (j n x : ℕ) (is : e ≡ InstructionEntry.AssignSelf j n x) where
-      self-tree : trees.instruction-held p i ≡ Instruction.assign (from-self (path-list p n j)) (trees.expression-held p x)
-      self-tree = assign-self-held p l (can .writable .program) i (can .there) j n x (sym ee ∙ is)
-
-      self-place : instruction-after p i ≡ position-after p h i
-      unfolding position-after position-by
-      self-place = rw (← ee, is)
-
-      pub commit-can-self : CanEvaluate p l h t x
-      commit-can-self = can-assign _ x self-tree (form .self-there j n x (sym ee ∙ is)) self-place
-
-      pub commit-self : (h₁ t₁ h₂ : List ℕ) → Assigns p l h t (from-self (path-list p n j)) x h₁ t₁ → h₂ ≡ set-position h₁ (instruction-after p i) → Commits p l h t i h₂ t₁
-      commit-self = done-assign _ x self-tree (form .self-there j n x (sym ee ∙ is)) self-place
-
-    module _ (j n x : ℕ) (is : e ≡ InstructionEntry.AssignProgram j n x) where
-      program-tree : trees.instruction-held p i ≡ Instruction.assign (from-program (path-list p n j)) (trees.expression-held p x)
-      program-tree = assign-program-held p l (can .writable .program) i (can .there) j n x (sym ee ∙ is)
-
-      program-place : instruction-after p i ≡ position-after p h i
-      unfolding position-after position-by
-      program-place = rw (← ee, is)
-
-      pub commit-can-program : CanEvaluate p l h t x
-      commit-can-program = can-assign _ x program-tree (form .program-there j n x (sym ee ∙ is)) program-place
-
-      pub commit-program : (h₁ t₁ h₂ : List ℕ) → Assigns p l h t (from-program (path-list p n j)) x h₁ t₁ → h₂ ≡ set-position h₁ (instruction-after p i) → Commits p l h t i h₂ t₁
-      commit-program = done-assign _ x program-tree (form .program-there j n x (sym ee ∙ is)) program-place
-
     pub commit-show : (a : ℕ) (h₂ : List ℕ) → e ≡ InstructionEntry.Show a → h₂ ≡ set-position h (instruction-after p i) → Commits p l h t i h₂ t
     unfolding commit state-held position-after position-by
     commit-show a h₂ is eh = onward h₂ eh (rw (show-held p l (can .writable .program) i (can .there) a (sym ee ∙ is))) (rw (← ee, is))
+
+    -- an assignment is not met here
+    module _ (k : ℕ) (ek : k ≡ instruction-kind p i) (ge : 2 ≤ k) (j n x : ℕ) (h₂ : List ℕ) where
+      pub commit-no-self : e ≡ InstructionEntry.AssignSelf j n x → Commits p l h t i h₂ t
+      unfolding assignment
+      commit-no-self is = absurd (no-assignment p i k ek ge true j n x (sym is ∙ ee))
+
+      pub commit-no-program : e ≡ InstructionEntry.AssignProgram j n x → Commits p l h t i h₂ t
+      unfolding assignment
+      commit-no-program is = absurd (no-assignment p i k ek ge false j n x (sym is ∙ ee))
 
     pub commit-bad : (h₂ : List ℕ) → e ≡ InstructionEntry.Bad → Commits p l h t i h₂ t
     commit-bad h₂ is = absurd (form .formed (sym ee ∙ is))

@@ -1,4 +1,5 @@
 pub mod Places
+pub mod Assignment
 pub mod Headers
 pub mod Laws
 pub mod Ready

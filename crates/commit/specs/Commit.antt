@@ -2,6 +2,7 @@
 -- Assumes nothing.
 use Prim.Native.Nat.{ℕ, _<_}
 use mathlib.Core.Path.{_≡_}
+use mathlib.Core.Bool.{Bool, true, false}
 use mathlib.Core.List.{List}
 use lib.Dec.{leb}
 use lib.ListN.{length}
@@ -9,7 +10,7 @@ use Rattle.words.specs.Words.{pick}
 use Rattle.framed.specs.declared.Value.{Value}
 use Rattle.framed.specs.Values.{truth}
 use Rattle.framed.specs.Tree.{Code}
-use Rattle.framed.specs.Paths.{Path}
+use Rattle.framed.specs.Paths.{Path, from-self, from-program}
 use Rattle.framed.specs.Machine.{Result, gives, ends, frame-literals, join-signs, right-side}
 use Rattle.tables.specs.declared.InstructionEntry.{InstructionEntry}
 use Rattle.tables.specs.Entries.{instruction-at}
@@ -17,7 +18,7 @@ use Rattle.tables.specs.Fields.{expressions, instructions, codes, code-first, i
 use Rattle.program_form.specs.WellFormed.{WellFormed}
 use Rattle.trees.specs.Held as trees
 use Rattle.trees.specs.Held.{remaining}
-use Rattle.heap.specs.Words.{self-held, program-held, position}
+use Rattle.heap.specs.Words.{self-held, program-held, position, set-self, set-program}
 use Rattle.heap.specs.Held.{frames-held}
 use Rattle.paths.specs.Paths.{path-held}
 use Rattle.puts.specs.Puts.{target-along, put-slot}
@@ -38,6 +39,19 @@ put-at h (ends e) v = h
 
 unfoldable pub put-along : List ℕ → List ℕ → Value → ℕ → ℕ → Value → List ℕ
 put-along p h root j n v = put-at h (target-along (frames-held h) root (path-held p j n)) v
+
+-- self or the program, the words with it, and a path from it
+unfoldable pub root-of : Bool → List ℕ → Value
+root-of true h = self-held h
+root-of false h = program-held h
+
+unfoldable pub set-root : Bool → List ℕ → Value → List ℕ
+set-root true h v = set-self h v
+set-root false h v = set-program h v
+
+unfoldable pub path-of : Bool → List ℕ → Path
+path-of true ns = from-self ns
+path-of false ns = from-program ns
 
 -- ---- The state
 
@@ -95,6 +109,11 @@ pub record Jumps (p l h : List ℕ) (a c : ℕ) (h′ : List ℕ) : Type 0 where
   pub size : length h′ ≡ 16384
 
 -- ---- Instructions
+
+-- `:=` from self or from the program, along the n path names from j on, of expression x
+unfoldable pub assignment : Bool → ℕ → ℕ → ℕ → InstructionEntry
+assignment true j n x = InstructionEntry.AssignSelf j n x
+assignment false j n x = InstructionEntry.AssignProgram j n x
 
 -- the position after instruction i, by its entry
 unfoldable pub position-by : List ℕ → List ℕ → ℕ → InstructionEntry → ℕ

@@ -4,11 +4,10 @@ use paths::Fetched;
 use puts::PutTarget;
 use tables::InstructionEntry;
 ghost use mathlib.Core.Path.{_≡_};
-ghost use Rattle.framed.specs.Paths.{from-self, from-program};
 ghost use Rattle.trees.specs.Trees.{path-list};
 ghost use Rattle.allocation.specs.Known.{Full};
 ghost use Rattle.evaluation.specs.Evaluation.{CanEvaluate};
-ghost use Rattle.commit.specs.Commit.{put-along, first-place, Assigns, CanJump, Jumps, CanCommit, Commits};
+ghost use Rattle.commit.specs.Commit.{put-along, root-of, set-root, path-of, first-place, Assigns, CanJump, Jumps, CanCommit, Commits};
 ghost use Rattle.heap.specs.Words.{set-position};
 ghost use Rattle.tables.specs.Fields.{instruction-after};
 
@@ -22,37 +21,33 @@ pub fn put(p: &[u32], h: &mut [u32], root: Value, j: u32, n: u32, v: Value)
     puts::put_slot(h, f, name, v);
 }
 
-// The value of the expression, then Put from the old self; an empty path sets self.
-pub fn assign_self(
-    p: &[u32],
-    l: &[u8],
-    h: &mut [u32],
-    t: &mut [u8],
-    j: u32,
-    n: u32,
-    x: u32,
-    low: u32,
-    least: u32,
-)
-    requires { ⌜ CanEvaluate (now p) (now l) (now h) (now t) x ⌝ }
-    requires { ⌜ Full (now h) low least ⌝ }
-    ensures { λ _. ⌜ Assigns (now (p .entry)) (now (l .entry)) (now (h .entry)) (now (t .entry)) (from-self (path-list (now (p .entry)) n j)) x (now (h .exit)) (now (t .exit)) ⌝ }
+// Self where `own`, else the program.
+pub fn root(h: &[u32], own: bool) -> Value
+    ensures { λ r. ⌜ r ≡ root-of own (now (h .entry)) ⌝ }
 {
-    let root = heap::self_value(h);
-    let v = evaluation::evaluate(p, l, h, t, x, low, least);
-    if n == 0 {
+    if own {
+        return heap::self_value(h);
+    }
+    heap::program_value(h)
+}
+
+pub fn set_root(h: &mut [u32], own: bool, v: Value)
+    ensures { λ _. ⌜ now (h .exit) ≡ set-root own (now (h .entry)) v ⌝ }
+{
+    if own {
         heap::set_self(h, v);
         return;
     }
-    put(p, h, root, j, n, v);
+    heap::set_program(h, v);
 }
 
-// The same from the old program; an empty path sets program.
-pub fn assign_program(
+// The value of the expression, then Put from the old self where `own`, else from the old program; an empty path sets it.
+fn assign(
     p: &[u32],
     l: &[u8],
     h: &mut [u32],
     t: &mut [u8],
+    own: bool,
     j: u32,
     n: u32,
     x: u32,
@@ -61,12 +56,12 @@ pub fn assign_program(
 )
     requires { ⌜ CanEvaluate (now p) (now l) (now h) (now t) x ⌝ }
     requires { ⌜ Full (now h) low least ⌝ }
-    ensures { λ _. ⌜ Assigns (now (p .entry)) (now (l .entry)) (now (h .entry)) (now (t .entry)) (from-program (path-list (now (p .entry)) n j)) x (now (h .exit)) (now (t .exit)) ⌝ }
+    ensures { λ _. ⌜ Assigns (now (p .entry)) (now (l .entry)) (now (h .entry)) (now (t .entry)) (path-of own (path-list (now (p .entry)) n j)) x (now (h .exit)) (now (t .exit)) ⌝ }
 {
-    let from = heap::program_value(h);
-    let v = evaluation::evaluate(p, l, h, t, x, low, least);
+    let from = root(h, own);
+    let v = evaluation::make(p, l, h, t, x, low, least);
     if n == 0 {
-        heap::set_program(h, v);
+        set_root(h, own, v);
         return;
     }
     put(p, h, from, j, n, v);
@@ -107,21 +102,24 @@ pub fn go_on(p: &[u32], h: &mut [u32], i: u32)
     heap::set_position(h, tables::instruction_after(p, i));
 }
 
-// What instruction i does. Every frame below `low` and every made text below `least` is in use.
+// What instruction i does: kinds 0 and 1 assign from self and from the program. Every frame below `low` and every made text below `least` is in use.
 pub fn commit(p: &[u32], l: &[u8], h: &mut [u32], t: &mut [u8], i: u32, low: u32, least: u32)
     requires { ⌜ CanCommit (now p) (now l) (now h) (now t) i ⌝ }
     requires { ⌜ Full (now h) low least ⌝ }
     ensures { λ _. ⌜ Commits (now (p .entry)) (now (l .entry)) (now (h .entry)) (now (t .entry)) i (now (h .exit)) (now (t .exit)) ⌝ }
 {
+    let kind = tables::instruction_kind(p, i);
+    if kind < 2 {
+        let j = tables::instruction_a(p, i);
+        let n = tables::instruction_b(p, i);
+        let x = tables::instruction_c(p, i);
+        assign(p, l, h, t, kind == 0, j, n, x, low, least);
+        go_on(p, h, i);
+        return;
+    }
     match tables::instruction_at(p, i) {
-        InstructionEntry::AssignSelf(j, n, x) => {
-            assign_self(p, l, h, t, j, n, x, low, least);
-            go_on(p, h, i);
-        }
-        InstructionEntry::AssignProgram(j, n, x) => {
-            assign_program(p, l, h, t, j, n, x, low, least);
-            go_on(p, h, i);
-        }
+        InstructionEntry::AssignSelf(_, _, _) => go_on(p, h, i),
+        InstructionEntry::AssignProgram(_, _, _) => go_on(p, h, i),
         InstructionEntry::Show(_) => go_on(p, h, i),
         InstructionEntry::Jump(a, c) => jump(p, l, h, a, c),
         InstructionEntry::Ifeq(a, c, d) => {

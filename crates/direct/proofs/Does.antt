@@ -32,11 +32,12 @@ use Rattle.checking.proofs.Memories.{instruction-checks}
 use Rattle.checking.proofs.Laws.{assign-met, assign-put, check-jump, check-ifeq}
 use Rattle.producing.specs.Producing.{HasRoom, Writable}
 use Rattle.producing.proofs.Laws.{readable-from, given-some}
-use Rattle.commit.specs.Commit.{Assigns, CanJump, Jumps, CanCommit, Commits}
-use Rattle.commit.proofs.Laws.{commit-can-jump, commit-jumps, commit-can-ifeq, commit-ifeq-on, commit-ifeq-jumps}
+use Rattle.commit.specs.Commit.{root-of, set-root, path-of, Assigns, CanJump, Jumps, assignment, CanCommit, Commits}
+use Rattle.commit.proofs.Assignment.{assignment-entry}
+use Rattle.commit.proofs.Laws.{sets-root, puts-root, commit-can-jump, commit-jumps, commit-can-ifeq, commit-ifeq-on, commit-ifeq-jumps}
 use Rattle.direct.specs.declared.Given.{Given}
-use Rattle.direct.specs.Direct.{expression-given, root-of, set-root, PutsFrom, JumpsOnce, assignment, Formed, CanDo, CanDoEntry, MakesNothing, end-met, IsMade, IsEnded, Does}
-use Rattle.direct.proofs.Assignment.{assignment-entry, path-of, Assignment, root-path, sets-root, puts-root}
+use Rattle.direct.specs.Direct.{expression-given, PutsFrom, JumpsOnce, Formed, CanDo, CanDoEntry, MakesNothing, end-met, IsMade, IsEnded, Does}
+use Rattle.direct.proofs.Assignment.{Assignment, root-path}
 use Rattle.direct.proofs.Values.{Still, GivesValue, GivesEnd, Gives, expression-gives}
 
 -- ---- By the answer
@@ -132,8 +133,8 @@ module _ (p l h t : List ℕ) (i : ℕ) (own : Bool) (at : CanDoEntry p l h t i 
 
       -- the value put there
       assigns : r ≡ 0 → Dec (n ≡ 0) → Assigns p l h t (path-of own (path-list p n j)) x h₁ t
-      assigns z (yes e) = sets-root p l h t i j n x v h t (value .evaluates) h₁ own e (rw (z, eq-eqb n 0 e) at (q .words))
-      assigns z (no ne) = puts-root p l h t i j n x v h t (value .evaluates) h₁ own ne (rw (z, ne-eqb n 0 ne) at (q .words))
+      assigns z (yes e) = sets-root p l h t x v h t (value .evaluates) j n own e h₁ (rw (z, eq-eqb n 0 e) at (q .words))
+      assigns z (no ne) = puts-root p l h t x v h t (value .evaluates) j n ne (root-of own h) h₁ (rw (z, ne-eqb n 0 ne) at (q .words)) own refl
 
       pub assign-put-ended : (r ≡ 0 → ⊥) → Does p l h t i r h₁
       assign-put-ended = put-ended p l h t i j n x (at .can) _ _ along v value (set-root own h v) r h₁ q

@@ -48,10 +48,11 @@ use Rattle.producing.proofs.Laws as producing
 use Rattle.producing.proofs.Laws.{produce-joined}
 use Rattle.evaluation.specs.Evaluation.{CanEvaluate, Evaluates}
 use Rattle.evaluation.proofs.Simple.{operation-made, flat-can}
-use Rattle.commit.specs.Commit.{put-along, Assigns}
-use Rattle.commit.proofs.Laws.{put-somewhere}
-use Rattle.direct.specs.Direct.{root-of, set-root, end-met, joins-entry, CanAssignJoin, CanPutJoin, JoinsOnce}
-use Rattle.direct.proofs.Assignment.{assignment-entry, path-of, Assignment, root-path, sets-root, puts-root}
+use Rattle.commit.specs.Commit.{put-along, root-of, set-root, path-of, Assigns}
+use Rattle.commit.proofs.Assignment.{assignment-entry}
+use Rattle.commit.proofs.Laws.{put-somewhere, sets-root, puts-root}
+use Rattle.direct.specs.Direct.{end-met, joins-entry, CanAssignJoin, CanPutJoin, JoinsOnce}
+use Rattle.direct.proofs.Assignment.{Assignment, root-path}
 
 -- ---- joins
 
@@ -235,7 +236,7 @@ module _ (p l h t : List ℕ) (i : ℕ) (v w : Value) (can : CanPutJoin p l h t 
     pub join-set : n ≡ 0 → (u : Value) (h₁ t₁ : List ℕ) → Joins p l h t v w u h₁ t₁ → (h₂ : List ℕ) → h₂ ≡ set-root (eqb k 0) h₁ u
         → (h₃ : List ℕ) → h₃ ≡ set-position h₂ (instruction-after p i) → JoinsOnce p l h t i 0 h₃ t₁
     join-set e u h₁ t₁ m h₂ e₂ h₃ e₃ =
-        made (put-empty p h (root-of own-path h) j n e) h₂ t₁ (sets-root p l h t i j n (instruction-c p i) u h₁ t₁ (evaluates u h₁ t₁ m) h₂ own-path e e₂) h₃ e₃
+        made (put-empty p h (root-of own-path h) j n e) h₂ t₁ (sets-root p l h t (instruction-c p i) u h₁ t₁ (evaluates u h₁ t₁ m) j n own-path e h₂ e₂) h₃ e₃
 
     module _ (ne : n ≡ 0 → ⊥) (root : Value) (eo : root ≡ root-of (eqb k 0) h) (r : PutTarget) (er : targeted r ≡ target-along (frames-held h) root (path-held p j n)) where
       target-is : targeted r ≡ target-along (frames-held h) (root-of own-path h) (path-held p j n)
@@ -259,4 +260,4 @@ module _ (p l h t : List ℕ) (i : ℕ) (v w : Value) (can : CanPutJoin p l h t 
         join-put z u h₁ t₁ m h₂ e₂ h₃ e₃ =
             let at : targeted r ≡ target-along (frames-held h₁) (root-of own-path h) (path-held p j n) = rw (same-frames u h₁ t₁ m) target-is in
             let eh : h₂ ≡ put-along p h₁ (root-of own-path h) j n u = put-somewhere p h₁ (root-of own-path h) j n u r at f y h₂ is e₂ in
-            made (sym z ∙ slot-is) h₂ t₁ (puts-root p l h t i j n (instruction-c p i) u h₁ t₁ (evaluates u h₁ t₁ m) h₂ own-path ne eh) h₃ e₃
+            made (sym z ∙ slot-is) h₂ t₁ (puts-root p l h t (instruction-c p i) u h₁ t₁ (evaluates u h₁ t₁ m) j n ne (root-of own-path h) h₂ eh own-path refl) h₃ e₃

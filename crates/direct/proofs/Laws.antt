@@ -1,6 +1,6 @@
 -- One law for each way through the functions that give a value, put and jump. Assumes nothing.
 use Prim.Native.Nat.{ℕ, _/_, _%_, _≤_, _<_}
-use mathlib.Core.Path.{_≡_, refl, _∙_, sym}
+use mathlib.Core.Path.{_≡_, refl, _∙_, ap, sym}
 use mathlib.Core.Bool.{Bool, true, false}
 use mathlib.Core.List.{List, [], _∷_}
 use lib.IntN.{ℤ, pos}
@@ -20,7 +20,7 @@ use Rattle.framed.specs.Machine.{defined}
 use Rattle.ints.specs.Ints.{int-of}
 use Rattle.tables.specs.declared.ExpressionEntry.{ExpressionEntry}
 use Rattle.tables.specs.Entries.{expression-at}
-use Rattle.heap.specs.Words.{value-of, self-held, program-held, frame-used, slot-count-at, set-self, set-program, set-position, set-slot-value, add-slot}
+use Rattle.heap.specs.Words.{value-of, self-held, program-held, frame-used, slot-count-at, set-self, set-position, set-slot-value, add-slot}
 use Rattle.heap.specs.Held.{slots-held, frames-held, texts-held}
 use Rattle.paths.specs.declared.SlotFound.{SlotFound}
 use Rattle.paths.proofs.SlotFound.{the-type as slot-type}
@@ -30,14 +30,15 @@ use Rattle.puts.specs.declared.PutTarget.{PutTarget}
 use Rattle.puts.specs.Puts.{targeted, target-along, put-slot}
 use Rattle.puts.proofs.Laws.{end-past, end-free, end-found, end-room, end-full, put-end-none, put-end-at, put-adds, put-sets}
 use Rattle.texts.specs.Literals.{literals-held}
-use Rattle.bounded.specs.Operations.{operated}
+use Rattle.bounded.specs.Operations.{operated, flag}
 use Rattle.bounded.specs.Check.{slot-end}
 use Rattle.operands.specs.Operands.{operand-value, unpacked}
 use Rattle.operands.proofs.Numbers.{number-none, number-some}
 use Rattle.operands.proofs.Laws.{operand-integer, operand-literal, operand-code, operand-self, operand-program}
-use Rattle.operators.specs.declared.Operated.{Operated}
-use Rattle.operators.specs.Operators as operators
-use Rattle.operators.specs.Operators.{operator-of}
+use Rattle.arith.specs.declared.Arithmetic.{Arithmetic}
+use Rattle.arith.specs.Arith.{outcome}
+use Rattle.operators.specs.Operators.{operator-of, arithmetic-operated, compared}
+use Rattle.operators.proofs.Laws.{arithmetic-means, compared-means}
 use Rattle.operand_checks.specs.OperandChecks.{jump-end}
 use Rattle.operand_checks.proofs.Laws as ends-laws
 use Rattle.producing.specs.Producing.{operation-held}
@@ -45,7 +46,7 @@ use Rattle.evaluation.proofs.Stores.{full-frame}
 use Rattle.commit.specs.Commit.{put-along, first-place, CanJump, Jumps}
 use Rattle.commit.proofs.Laws.{put-somewhere, jump-none, jump-no-code, jump-second, jump-both}
 use Rattle.direct.specs.declared.Given.{Given}
-use Rattle.direct.specs.Direct.{of-base, of-not, of-product, operation-given, entry-given, expression-given, PutsSlot, Puts, PutsFrom, root-of, set-root, JumpsOnce}
+use Rattle.direct.specs.Direct.{of-base, of-not, of-product, operation-given, entry-given, expression-given, PutsSlot, Puts, PutsFrom, JumpsOnce}
 
 -- ---- from_fetched, negation
 
@@ -71,6 +72,16 @@ module _ (p h : List ℕ) (a : ℕ) (r : Fetched) (er : defined (fetched r) ≡ 
     unfolding of-not defined bit
     not-false q = rw (← er, ev, ← eb, q)
 
+-- ---- from_arithmetic
+
+pub gives-integer : (o : Arithmetic) (z y : ℤ) → o ≡ Arithmetic.Integer z → y ≡ z → Given.Value (Value.Int y) ≡ of-product (outcome o)
+unfolding of-product
+gives-integer o z y is ey = rw (is, ey)
+
+pub gives-end : (o : Arithmetic) (e : ℕ) → o ≡ Arithmetic.Ended e → Given.Ended e ≡ of-product (outcome o)
+unfolding of-product
+gives-end o e is = rw is
+
 -- ---- operation
 
 module _ (p l h t : List ℕ) (k a b : ℕ) where
@@ -88,22 +99,22 @@ module _ (p l h t : List ℕ) (k a b : ℕ) where
       unfolding operation-given operation-held of-product defined M._>>=_
       operation-second e = rw (ne-eqb k 12 ne, ← er, ev, ← eq, e)
 
-      module _ (w : Value) (ew : q ≡ Fetched.Found w) (o : Operated) (eo : operators.Operates p l h t k v w o) where
+      module _ (w : Value) (ew : q ≡ Fetched.Found w) where
         both : operation-given p l h t k a b ≡ of-product (operated (literals-held p l) (texts-held h t) (operator-of k) v w)
         unfolding operation-given operation-held defined M._>>=_
         both = rw (ne-eqb k 12 ne, ← er, ev, ← eq, ew)
 
-        operation-integer : (z y : ℤ) → o ≡ Operated.Integer z → y ≡ z → Given.Value (Value.Int y) ≡ operation-given p l h t k a b
-        unfolding of-product
-        operation-integer z y is ey = rw (both, ← (eo .is), is, ey)
+        operation-integers : k < 12 → (o : Arithmetic) → outcome o ≡ arithmetic-operated k v w → (g : Given) → g ≡ of-product (outcome o) → g ≡ operation-given p l h t k a b
+        operation-integers lt o eo g eg = eg ∙ ap of-product (eo ∙ arithmetic-means (literals-held p l) (texts-held h t) k v w lt) ∙ sym both
 
-        operation-joined : o ≡ Operated.Joined → Given.Makes ≡ operation-given p l h t k a b
-        unfolding of-product
-        operation-joined is = rw (both, ← (eo .is), is)
+        module _ (ge : 12 ≤ k) (c : Bool) (ec : c ≡ compared (literals-held p l) (texts-held h t) k v w) where
+          operation-true : c ≡ true → Given.Value (Value.Int (pos 1)) ≡ operation-given p l h t k a b
+          unfolding of-product flag
+          operation-true is = rw (both, ← (compared-means (literals-held p l) (texts-held h t) k v w ge ne), ← ec, is)
 
-        operation-ended : (e : ℕ) → o ≡ Operated.Ended e → Given.Ended e ≡ operation-given p l h t k a b
-        unfolding of-product
-        operation-ended e is = rw (both, ← (eo .is), is)
+          operation-false : c ≡ false → Given.Value (Value.Int (pos 0)) ≡ operation-given p l h t k a b
+          unfolding of-product flag
+          operation-false is = rw (both, ← (compared-means (literals-held p l) (texts-held h t) k v w ge ne), ← ec, is)
 
   -- the operands as numbers
   module _ (ne : k ≡ 12 → ⊥) (m : ℕ) (em : defined (fetched (unpacked m)) ≡ operand-value p h a) where
@@ -116,16 +127,16 @@ module _ (p l h t : List ℕ) (k a b : ℕ) where
           let v = value-of (m % 8) (m / 8 % 4294967296) in
           operation-second ne (Fetched.Found v) (number-some p h a m em some v refl) v refl Fetched.Undefined (number-none p h b n en e) refl
 
-      module _ (both : n ≡ 5 → ⊥) (v w : Value) (ev : v ≡ value-of (m % 8) (m / 8 % 4294967296)) (ew : w ≡ value-of (n % 8) (n / 8 % 4294967296))
-          (o : Operated) (eo : operators.Operates p l h t k v w o) where
-        pub number-integer : (z y : ℤ) → o ≡ Operated.Integer z → y ≡ z → Given.Value (Value.Int y) ≡ operation-given p l h t k a b
-        number-integer = operation-integer ne (Fetched.Found v) (number-some p h a m em some v ev) v refl (Fetched.Found w) (number-some p h b n en both w ew) w refl o eo
+      module _ (both : n ≡ 5 → ⊥) (v w : Value) (ev : v ≡ value-of (m % 8) (m / 8 % 4294967296)) (ew : w ≡ value-of (n % 8) (n / 8 % 4294967296)) where
+        pub number-integers : k < 12 → (o : Arithmetic) → outcome o ≡ arithmetic-operated k v w → (g : Given) → g ≡ of-product (outcome o) → g ≡ operation-given p l h t k a b
+        number-integers = operation-integers ne (Fetched.Found v) (number-some p h a m em some v ev) v refl (Fetched.Found w) (number-some p h b n en both w ew) w refl
 
-        pub number-joined : o ≡ Operated.Joined → Given.Makes ≡ operation-given p l h t k a b
-        number-joined = operation-joined ne (Fetched.Found v) (number-some p h a m em some v ev) v refl (Fetched.Found w) (number-some p h b n en both w ew) w refl o eo
+        module _ (ge : 12 ≤ k) (c : Bool) (ec : c ≡ compared (literals-held p l) (texts-held h t) k v w) where
+          pub number-true : c ≡ true → Given.Value (Value.Int (pos 1)) ≡ operation-given p l h t k a b
+          number-true = operation-true ne (Fetched.Found v) (number-some p h a m em some v ev) v refl (Fetched.Found w) (number-some p h b n en both w ew) w refl ge c ec
 
-        pub number-ended : (e : ℕ) → o ≡ Operated.Ended e → Given.Ended e ≡ operation-given p l h t k a b
-        number-ended = operation-ended ne (Fetched.Found v) (number-some p h a m em some v ev) v refl (Fetched.Found w) (number-some p h b n en both w ew) w refl o eo
+          pub number-false : c ≡ false → Given.Value (Value.Int (pos 0)) ≡ operation-given p l h t k a b
+          number-false = operation-false ne (Fetched.Found v) (number-some p h a m em some v ev) v refl (Fetched.Found w) (number-some p h b n en both w ew) w refl ge c ec
 
 -- ---- expression
 
@@ -214,25 +225,6 @@ module _ (p h : List ℕ) (root : Value) (j n : ℕ) (v : Value) (r : PutTarget)
       end = put-end-at (frames-held h) _ r er f x e is (k .end);
       words = rw (← (put-somewhere p h root j n v r er f x (put-slot h f x v) is refl)) (k .words);
     }
-
--- ---- root, set_root
-
-module _ (own : Bool) (h : List ℕ) where
-  pub root-self : own ≡ true → (r : Value) → r ≡ self-held h → r ≡ root-of own h
-  unfolding root-of
-  root-self e r er = rw e er
-
-  pub root-program : own ≡ false → (r : Value) → r ≡ program-held h → r ≡ root-of own h
-  unfolding root-of
-  root-program e r er = rw e er
-
-  pub sets-self-root : own ≡ true → (v : Value) (h′ : List ℕ) → h′ ≡ set-self h v → h′ ≡ set-root own h v
-  unfolding set-root
-  sets-self-root e v h′ eh = rw e eh
-
-  pub sets-program-root : own ≡ false → (v : Value) (h′ : List ℕ) → h′ ≡ set-program h v → h′ ≡ set-root own h v
-  unfolding set-root
-  sets-program-root e v h′ eh = rw e eh
 
 -- ---- put_from
 

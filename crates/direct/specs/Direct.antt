@@ -15,7 +15,7 @@ use Rattle.tables.specs.declared.InstructionEntry.{InstructionEntry}
 use Rattle.tables.specs.Entries.{expression-at, instruction-at}
 use Rattle.tables.specs.Fields.{instructions, instruction-kind, instruction-c, expression-kind, expression-a, expression-b}
 use Rattle.trees.specs.Held as trees
-use Rattle.heap.specs.Words.{self-held, program-held, set-self, set-program}
+use Rattle.heap.specs.Words.{self-held, program-held}
 use Rattle.heap.specs.Held.{frames-held, heap-held}
 use Rattle.paths.specs.Paths.{path-held}
 use Rattle.puts.specs.Puts.{target-along, put-slot}
@@ -82,15 +82,6 @@ pub record Puts (p h : List ℕ) (root : Value) (j n : ℕ) (v : Value) (r : ℕ
   pub end : r ≡ target-end (frames-held h) (target-along (frames-held h) root (path-held p j n))
   pub words : h′ ≡ unless-ended r (put-along p h root j n v) h
 
--- self or the program, and the words with it
-unfoldable pub root-of : Bool → List ℕ → Value
-root-of true h = self-held h
-root-of false h = program-held h
-
-unfoldable pub set-root : Bool → List ℕ → Value → List ℕ
-set-root true h v = set-self h v
-set-root false h v = set-program h v
-
 -- the same, where an empty path has the words h₀
 pub record PutsFrom (p h h₀ : List ℕ) (root : Value) (j n : ℕ) (v : Value) (r : ℕ) (h′ : List ℕ) : Type 0 where
   pub end : r ≡ put-end p h root j n
@@ -118,11 +109,6 @@ pub record CanDo (p l h t : List ℕ) (i : ℕ) : Type 0 where
 pub record CanDoEntry (p l h t : List ℕ) (i : ℕ) (e : InstructionEntry) : Type 0 where
   pub can : CanDo p l h t i
   pub entry : e ≡ instruction-at p i
-
--- `:=` from self or from the program, along the n path names from j on, of expression x
-unfoldable pub assignment : Bool → ℕ → ℕ → ℕ → InstructionEntry
-assignment true j n x = InstructionEntry.AssignSelf j n x
-assignment false j n x = InstructionEntry.AssignProgram j n x
 
 -- it makes no frame and no text
 pub record MakesNothing (p : List ℕ) (i : ℕ) : Type 0 where

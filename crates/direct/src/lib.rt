@@ -1,8 +1,8 @@
 // An instruction that makes no frame and no text, and `:=` of a join after reserve, in one go: each operand is read once and each path walked once, and an end that is met leaves the words as they are.
 // What became of it is a number: 0 it is made, 31 to 35 the end that it meets, 255 it was not looked at, as it makes something or shows.
+use arith::Arithmetic;
 use framed::Text;
 use framed::Value;
-use operators::Operated;
 use paths::Fetched;
 use paths::SlotFound;
 use puts::PutTarget;
@@ -16,9 +16,10 @@ ghost use Rattle.tables.specs.Fields.{instruction-a, instruction-b, instruction
 ghost use Rattle.paths.specs.Paths.{fetched};
 ghost use Rattle.texts.specs.Texts.{Readable};
 ghost use Rattle.allocation.specs.Known.{TextsFull};
+ghost use Rattle.arith.specs.Arith.{outcome};
 ghost use Rattle.operands.specs.Operands.{operand-value};
-ghost use Rattle.commit.specs.Commit.{CanJump};
-ghost use Rattle.direct.specs.Direct.{of-base, of-not, operation-given, expression-given, PutsSlot, Puts, root-of, set-root, PutsFrom, JumpsOnce, assignment, CanDo, CanDoEntry, Does};
+ghost use Rattle.commit.specs.Commit.{root-of, set-root, CanJump, assignment};
+ghost use Rattle.direct.specs.Direct.{of-base, of-not, of-product, operation-given, expression-given, PutsSlot, Puts, PutsFrom, JumpsOnce, CanDo, CanDoEntry, Does};
 ghost use Rattle.direct.specs.Direct.{joins-entry, CanAssignJoin, CanPutJoin, JoinsOnce};
 
 // The value of an expression that makes nothing, the end that it meets, or that it makes something.
@@ -51,6 +52,16 @@ fn negation(p: &[u32], h: &[u32], a: u32) -> Given
     Given::Value(Value::Int(1))
 }
 
+// What `+ - * / <` give.
+fn from_arithmetic(a: Arithmetic) -> Given
+    ensures { λ r. ⌜ r ≡ of-product (outcome a) ⌝ }
+{
+    match a {
+        Arithmetic::Integer(n) => Given::Value(Value::Int(n)),
+        Arithmetic::Ended(e) => Given::Ended(e),
+    }
+}
+
 // The operator of the kind between two bases; `#` makes a text.
 fn operation<'a>(p: &[u32], l: &'a [u8], h: &[u32], t: &'a [u8], kind: u32, a: u32, b: u32) -> Given
     requires { ⌜ Readable (now p) (now l) (now h) (now t) ⌝ }
@@ -67,11 +78,13 @@ fn operation<'a>(p: &[u32], l: &'a [u8], h: &[u32], t: &'a [u8], kind: u32, a: u
     if w == 5 {
         return Given::Ended(31);
     }
-    match operators::operate(p, l, h, t, kind, operands::value(v), operands::value(w)) {
-        Operated::Integer(n) => Given::Value(Value::Int(n)),
-        Operated::Joined => Given::Makes,
-        Operated::Ended(e) => Given::Ended(e),
+    if kind < 12 {
+        return from_arithmetic(operators::arithmetic(kind, operands::value(v), operands::value(w)));
     }
+    if operators::compare(p, l, h, t, kind, operands::value(v), operands::value(w)) {
+        return Given::Value(Value::Int(1));
+    }
+    Given::Value(Value::Int(0))
 }
 
 // The value of expression x.
@@ -129,35 +142,15 @@ fn put(p: &[u32], h: &mut [u32], root: Value, j: u32, n: u32, v: Value) -> u32
     put_slot(h, f, name, v)
 }
 
-// Self where `own`, else the program.
-fn root(h: &[u32], own: bool) -> Value
-    ensures { λ r. ⌜ r ≡ root-of own (now (h .entry)) ⌝ }
-{
-    if own {
-        return heap::self_value(h);
-    }
-    heap::program_value(h)
-}
-
-fn set_root(h: &mut [u32], own: bool, v: Value)
-    ensures { λ _. ⌜ now (h .exit) ≡ set-root own (now (h .entry)) v ⌝ }
-{
-    if own {
-        heap::set_self(h, v);
-        return;
-    }
-    heap::set_program(h, v);
-}
-
 // Put from self or the program; an empty path sets it.
 fn put_from(p: &[u32], h: &mut [u32], own: bool, j: u32, n: u32, v: Value) -> u32
     ensures { λ r. ⌜ PutsFrom (now (p .entry)) (now (h .entry)) (set-root own (now (h .entry)) v) (root-of own (now (h .entry))) j n v r (now (h .exit)) ⌝ }
 {
     if n == 0 {
-        set_root(h, own, v);
+        commit::set_root(h, own, v);
         return 0;
     }
-    put(p, h, root(h, own), j, n, v)
+    put(p, h, commit::root(h, own), j, n, v)
 }
 
 // `:=` along a path from self where `own`, else from the program.
@@ -264,11 +257,11 @@ fn put_join(
     let n = tables::instruction_b(p, i);
     if n == 0 {
         let u = producing::join(p, l, h, t, v, w, least);
-        set_root(h, own, u);
+        commit::set_root(h, own, u);
         commit::go_on(p, h, i);
         return 0;
     }
-    let PutTarget::At(f, name) = puts::put_target(p, h, root(h, own), j, n) else {
+    let PutTarget::At(f, name) = puts::put_target(p, h, commit::root(h, own), j, n) else {
         return 31;
     };
     let full = puts::slot_end(h, f, name);

@@ -16,7 +16,7 @@ use mir.Val.{ofZ}
 use Rattle.framed.specs.Common.{if_then_else_}
 use Rattle.framed.specs.Bytes.{class}
 use Rattle.framed.specs.Tokens.{Token, Fixed, Operator, Tokens⊢, next, read, skip}
-use Rattle.framed.specs.Symbols.{Symbol, numbered, number-in}
+use Rattle.framed.specs.Symbols.{Symbol, numbered}
 use Rattle.framed.specs.Tree.{Written, Base, Slots, Code, _then_}
 use Rattle.framed.specs.Grammar.{Path⊢, Base⊢, Slots⊢, Code⊢}
 use Rattle.framed.specs.Parse.{fails, parsed, fixed-number, this, a-base}
@@ -24,7 +24,7 @@ use Rattle.framed.specs.Paths.{names-of, resolve-path, resolve-slots, resolve-c
 use Rattle.framed.specs.Paths as Paths
 use Rattle.framed.proofs.ParseExact.{fails≢parsed, base-out}
 use Rattle.framed.proofs.ParseExact as Exact
-use Rattle.source.specs.Positions.{rest, part}
+use Rattle.source.specs.Positions.{rest}
 use Rattle.source.proofs.Positions.{rest-end}
 use Rattle.token.specs.Reading.{signed, fixed-kind, token-kind}
 use Rattle.token.specs.Reading as Reading
@@ -35,6 +35,7 @@ use Rattle.grammar.specs.declared.Seen.{Seen}
 use Rattle.grammar.proofs.Found as FoundType
 use Rattle.grammar.proofs.Combine.{by-this}
 use Rattle.names.specs.Kept.{table-of}
+use Rattle.emit_names.specs.Table.{NumberAt}
 use Rattle.ints.specs.Ints.{word-of}
 use Rattle.tables.specs.declared.ExpressionEntry.{ExpressionEntry}
 use Rattle.tables.specs.declared.InstructionEntry.{InstructionEntry}
@@ -45,9 +46,9 @@ use Rattle.emit_steps.specs.Steps.{numbers, go-to, one-more, take-string, take-
 use Rattle.emit_steps.specs.declared.Next.{Next}
 use Rattle.emit_steps.specs.declared.Place.{Place}
 use Rattle.emit_paths.specs.Emits.{Ahead, Small, Emitted, Emits, PathHere, path-emitted}
-use Rattle.emit_paths.proofs.Symbols.{fixed-first, seen-fixed, seen-kind, seen-number, pass-left, nothing-ahead}
+use Rattle.emit_paths.proofs.Symbols.{fixed-first, seen-fixed, seen-kind, pass-left, nothing-ahead}
 use Rattle.emit_leaves.specs.Parts.{place-by, line-link-by, slot-link-by, assign-by, EmitsAny, IntegerHere, StringHere, OperatorHere, integer-emitted, string-emitted, operator-emitted}
-use Rattle.emit_leaves.specs.Parts.{is-operator, OperatorAfter, Skipped, TargetHere, target-emitted, Stands, BlockBegun, BlockOpened, FrameBegun, FrameOpened, SlotNamed, SlotEnd, SlotClosed, LineEnd, LineClosed}
+use Rattle.emit_leaves.specs.Parts.{is-operator, OperatorAfter, Skipped, TargetHere, target-emitted, Stands, BlockBegun, BlockOpened, FrameBegun, FrameOpened, SlotEnd, SlotClosed, LineEnd, LineClosed}
 use Rattle.emit_leaves.proofs.Numbers.{base-sizes, more-is}
 use Rattle.emit_leaves.proofs.Ahead.{integer-first, string-first, code-first, ahead-same, skip-fixed, skipped-ahead, instruction-kind}
 
@@ -366,9 +367,10 @@ module _ (s : List ℕ) (x : ℕ) (n : Next) (p : List ℕ) (t : Seen) (seen : S
 
 -- ---- The name of a slot
 
-pub slot-named : (s b e : List ℕ) (count : ℕ) (n : Next) (p : List ℕ) (t : Seen) → Sees s (n .at) t → (k : ℕ) → k ≡ number-in (table-of s b e count) (part s (t .begin) (t .end)) →
-    (p' : List ℕ) → p' ≡ set-slot-name p (n .expressions) k → SlotNamed s b e count n p p' k
-slot-named s b e count n p t x k ek p' ep = record { number = seen-number s b e count (n .at) t x k ek; words = ep }
+-- where t is no name, no name stands there
+pub no-number : (s b e : List ℕ) (count at : ℕ) (t : Seen) → Sees s at t → (t .kind ≡ 25 → ⊥) → (r : ℕ) → NumberAt s b e count at r
+unfolding front-kind kind-of numbered
+no-number s b e count at t x n r = record { is = λ w ts d. absurd (n (sym (x .kind-is .is [] 0 0 (Token.name w ∷ ts) d))) }
 
 -- ---- Where a slot ends
 

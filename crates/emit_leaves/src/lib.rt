@@ -1,8 +1,8 @@
 // The leaves of the tree and where its parts begin and end, written into program words: what the cycle of `emit_tree` calls.
 ghost use mathlib.Core.Path.{_≡_};
-ghost use Rattle.names.specs.Kept.{table-of, Numbered};
+ghost use Rattle.names.specs.Kept.{table-of};
 ghost use Rattle.token_cache.specs.Cache.{Cached};
-ghost use Rattle.emit_names.specs.Table.{Ready};
+ghost use Rattle.emit_names.specs.Table.{Ready, NumberAt};
 ghost use Rattle.grammar.specs.Runs.{Sees};
 ghost use Rattle.emit_paths.specs.Emits.{Emits};
 ghost use Rattle.emit_leaves.specs.Parts.{place-by, line-link-by, slot-link-by, assign-by, EmitsAny, IntegerHere, StringHere, OperatorHere, integer-emitted, string-emitted, operator-emitted};
@@ -181,8 +181,29 @@ pub fn open_frame(c: &[u64; 16384], s: &[u8], p: &mut [u32], x: u32, n: Next, t:
 
 // ---- Slots and instructions
 
+// The number of the name that stands at `at`, the token t; where t is no name, the number of none.
+fn number_here(
+    c: &[u64; 16384],
+    s: &[u8],
+    begins: &[usize],
+    ends: &[usize],
+    hints: &[u8; 4096],
+    count: u32,
+    at: usize,
+    t: Seen,
+) -> u32
+    requires { ⌜ Ready (now c) (now s) (now begins) (now ends) count × Sees (now s) at t ⌝ }
+    ensures { λ r. ⌜ NumberAt (now (s .entry)) (now (begins .entry)) (now (ends .entry)) count at r ⌝ }
+{
+    if t.kind != 25 {
+        return count;
+    }
+    emit_paths::name_number(c, s, begins, ends, hints, count, at, t)
+}
+
 // The name that stands there, the token t, as slot name of the next expression: its number.
 pub fn name_slot(
+    c: &[u64; 16384],
     s: &[u8],
     begins: &[usize],
     ends: &[usize],
@@ -192,10 +213,10 @@ pub fn name_slot(
     n: Next,
     t: Seen,
 ) -> u32
-    requires { ⌜ Numbered (now s) (now begins) (now ends) count × Sees (now s) (n .at) t ⌝ }
+    requires { ⌜ Ready (now c) (now s) (now begins) (now ends) count × Sees (now s) (n .at) t ⌝ }
     ensures { λ r. ⌜ SlotNamed (now (s .entry)) (now (begins .entry)) (now (ends .entry)) count n (now (p .entry)) (now (p .exit)) r ⌝ }
 {
-    let k = emit_paths::name_number(s, begins, ends, hints, count, t);
+    let k = number_here(c, s, begins, ends, hints, count, n.at, t);
     table_updates::set_slot_name(p, n.expressions, k);
     k
 }

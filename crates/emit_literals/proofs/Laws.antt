@@ -1,35 +1,30 @@
--- Laws of the literals: the bytes of one, one token, and the loop over the tokens. Assumes nothing.
+-- Laws of the literals: the bytes of one, one string, and the loop over the strings. Assumes nothing.
 use mathlib.Core.Path.{_≡_, refl, sym, ap, _∙_}
-use mathlib.Core.Bool.{Bool, true, false}
 use mathlib.Core.List.{List, [], _∷_}
 use mathlib.Core.Option.{some}
-use Prim.Native.Nat.{ℕ, zero, suc, _+_, _-_, _*_, _<_, _≤_}
+use Prim.Native.Nat.{ℕ, _+_, _-_, _*_, _<_, _≤_}
 use native.Mathlib.Numerals.{add-one}
 use native.Mathlib.Omega.{arith}
 use native.Mathlib.Nat.{min-le-right}
-use lib.Dec.{eqb}
-use lib.ListN.{length, drop, getD, take, drop-of-length-le, length-take, length-drop}
+use lib.ListN.{length, drop, getD, drop-of-length-le, length-take, length-drop}
 use lib.Seq.{drop-cons}
-use types.Run.{OneOf, miss}
+use types.Run.{OneOf}
 use denote.Enum.Declared.{tagOf}
-use borrow.Author.Tests.{eq-eqb, ne-eqb, eqb-true, eqb-false}
-use Rattle.framed.specs.Common.{if_then_else_}
 use Rattle.framed.specs.Bytes.{class}
 use Rattle.framed.specs.Tokens.{Token, tokens}
 use Rattle.framed.specs.Symbols.{literals}
-use Rattle.source.specs.Positions.{rest, part}
+use Rattle.source.specs.Positions.{part}
 use Rattle.words.specs.Words.{word, set-word}
 use Rattle.words.proofs.Laws.{set-size}
-use Rattle.token.specs.Reading.{token-of, token-kind, TokenAt, Spot}
+use Rattle.token.specs.Reading.{TokenAt}
 use Rattle.token.specs.declared.TokenRead.{TokenRead}
 use Rattle.token.proofs.TokenRead.{the-type}
-use Rattle.token.proofs.KindNumbers.{kind-is}
-use Rattle.token.proofs.Answers.{spot-of}
 use Rattle.sweep.specs.Decides.{Short}
-use Rattle.sweep.proofs.Loop.{Going, Gives, go-start, go-end, go-none, go-done, go-again}
+use Rattle.strings.specs.Places.{StringAt, Placed}
+use Rattle.strings.proofs.Laws.{string-there, string-is}
 use Rattle.table_updates.specs.Updates.{set-literal-length, set-literal-byte}
 use Rattle.emission.specs.Emit.{write-literal-lengths, write-literal-bytes, write-literals}
-use Rattle.emit_literals.specs.Literals.{Written, Counted, Both, both, AllWritten}
+use Rattle.emit_literals.specs.Literals.{Written, AllWritten}
 
 -- ---- The bytes of a literal
 
@@ -58,111 +53,77 @@ module _ (l₀ : List ℕ) (k : ℕ) (w l : List ℕ) (i : ℕ) (c : Writing l�
   unfolding write-literal-bytes
   writing-done h = ap (λ (v : List ℕ). write-literal-bytes v k i l) (sym (drop-of-length-le w h)) ∙ c .is
 
--- ---- One token
+-- ---- One literal
 
-module _ (s p l : List ℕ) (k j a q : ℕ) where
-  pub literal-other : (j ≡ 27 → ⊥) → Written s p l k j a q p l k
-  literal-other h = record { words-are = rw (ne-eqb j 27 h); bytes-are = rw (ne-eqb j 27 h); count-is = rw (ne-eqb j 27 h) }
+module _ (s : List ℕ) (at k : ℕ) (p l : List ℕ) (r : TokenRead) (found : TokenAt class s at r) where
+  pub literal-none : OneOf (0 ∷ 1 ∷ []) (tagOf the-type r) → Written s at k p l p l
+  literal-none o = record { words-are = λ w x. absurd (string-there s at w x r found o); bytes-are = λ w x. absurd (string-there s at w x r found o) }
 
-  module _ (w : List ℕ) (ew : w ≡ part s (a + 1) (q - 1)) where
-    pub literal-short : Counted s k → Short w
-    unfolding part
-    literal-short h = record {
-      short = rw (ew, length-take (q - 1 - (a + 1)) (drop (a + 1) s), length-drop (a + 1) s)
-          (omega (arith, h .short .short, min-le-right (q - 1 - (a + 1)) (length s - (a + 1))));
-    }
+  pub literal-one : (n a q x : ℕ) → r ≡ TokenRead.Token n a q x → (v : List ℕ) → v ≡ part s (a + 1) (q - 1) → (p' l' : List ℕ) → p' ≡ set-literal-length p k (length v) → l' ≡ write-literal-bytes v k 0 l →
+      Written s at k p l p' l'
+  literal-one n a q x h v ev p' l' ep el = record { words-are = λ w y. ep ∙ rw (is w y); bytes-are = λ w y. el ∙ rw (is w y) }
+    where
+      is : (w : List ℕ) → StringAt s at w → v ≡ w
+      is w y = ev ∙ sym (string-is s at w y r found n a q x h)
 
-    pub literal-word : Counted s k → length w < 4294967296
-    literal-word h = omega (arith, literal-short h .short)
+module _ (s : List ℕ) (a q : ℕ) (w : List ℕ) (ew : w ≡ part s (a + 1) (q - 1)) (h : Short s) where
+  pub literal-short : Short w
+  unfolding part
+  literal-short = record {
+    short = rw (ew, length-take (q - 1 - (a + 1)) (drop (a + 1) s), length-drop (a + 1) s)
+        (omega (arith, h .short, min-le-right (q - 1 - (a + 1)) (length s - (a + 1))));
+  }
 
-    pub literal-one : j ≡ 27 → (p' l' : List ℕ) → p' ≡ set-literal-length p k (length w) → l' ≡ write-literal-bytes w k 0 l → Written s p l k j a q p' l' (k + 1)
-    literal-one h p' l' ep el = record {
-      words-are = rw (eq-eqb j 27 h) (ep ∙ rw ew);
-      bytes-are = rw (eq-eqb j 27 h) (el ∙ rw ew);
-      count-is = rw (eq-eqb j 27 h);
-    }
+  pub literal-word : length w < 4294967296
+  literal-word = omega (arith, literal-short .short)
 
 -- ---- The loop
 
-unfoldable pub from : List ℕ → List ℕ → ℕ → List Token → Both
-from p l k ts = both (write-literal-lengths (literals ts) k p) (write-literals (literals ts) k l) (k + length (literals ts))
+-- the literals from k on are still to be written
+pub record Left (ws : List (List ℕ)) (p₀ l₀ p l : List ℕ) (k : ℕ) : Type 0 where
+  pub words-left : write-literal-lengths (drop k ws) k p ≡ write-literal-lengths ws 0 p₀
+  pub bytes-left : write-literals (drop k ws) k l ≡ write-literals ws 0 l₀
 
-literals-other : (t : Token) (ts : List Token) → (token-kind t ≡ 27 → ⊥) → literals (t ∷ ts) ≡ literals ts
-unfolding literals token-kind
-literals-other (Token.name w) ts n = refl
-literals-other (Token.integer z) ts n = refl
-literals-other (Token.string w) ts n = absurd (n refl)
-literals-other Token.code ts n = refl
-literals-other (Token.fixed f) ts n = refl
+module _ (ws : List (List ℕ)) (p₀ l₀ p l : List ℕ) (k : ℕ) (i : Left ws p₀ l₀ p l k) where
+  left-more : k < length ws → Left ws p₀ l₀ (set-literal-length p k (length (getD ws k []))) (write-literal-bytes (getD ws k []) k 0 l) (k + 1)
+  unfolding write-literal-lengths write-literals
+  left-more h = record {
+    words-left = sym (ap (λ (vs : List (List ℕ)). write-literal-lengths vs k p) split) ∙ i .words-left;
+    bytes-left = sym (ap (λ (vs : List (List ℕ)). write-literals vs k l) split) ∙ i .bytes-left;
+  }
+    where
+      split : drop k ws ≡ getD ws k [] ∷ drop (k + 1) ws
+      split = drop-cons ws k [] h ∙ rw (add-one k)
 
-from-string : (s p l : List ℕ) (k a q w : ℕ) (ts : List Token) →
-    from p l k (token-of s 27 a q w ∷ ts) ≡ from (set-literal-length p k (length (part s (a + 1) (q - 1)))) (write-literal-bytes (part s (a + 1) (q - 1)) k 0 l) (k + 1) ts
-unfolding from literals token-of write-literal-lengths write-literals
-from-string s p l k a q w ts = ap (both _ _) (along k (length (literals ts)))
-  where
-    along : (k m : ℕ) → k + suc m ≡ k + 1 + m
-    along k m = omega arith
+  left-words : length ws ≤ k → p ≡ write-literal-lengths ws 0 p₀
+  unfolding write-literal-lengths
+  left-words h = ap (λ (vs : List (List ℕ)). write-literal-lengths vs k p) (sym (drop-of-length-le ws h)) ∙ i .words-left
 
-pub record Passing (s p₀ l₀ p l : List ℕ) (k at : ℕ) : Type 0 where
+  left-bytes : length ws ≤ k → l ≡ write-literals ws 0 l₀
+  unfolding write-literals
+  left-bytes h = ap (λ (vs : List (List ℕ)). write-literals vs k l) (sym (drop-of-length-le ws h)) ∙ i .bytes-left
+
+pub record Passing (s p₀ l₀ p l : List ℕ) (k : ℕ) : Type 0 where
   pub words-size : length p ≡ length p₀
   pub bytes-size : length l ≡ length l₀
-  pub fewer : k ≤ at
-  pub going : Going (from p₀ l₀ 0) s 0 (from p l k) at
+  pub left : (ts : List Token) → tokens class s ≡ some ts → length (literals ts) ≤ 128 → Left (literals ts) p₀ l₀ p l k
 
-pub passing-start : (s p l : List ℕ) → Passing s p l p l 0 0
-passing-start s p l = record { words-size = refl; bytes-size = refl; fewer = omega arith; going = go-start _ s 0 }
+pub passing-start : (s p l : List ℕ) → Passing s p l p l 0
+passing-start s p l = record { words-size = refl; bytes-size = refl; left = λ ts f few. record { words-left = refl; bytes-left = refl } }
 
-zero-plus : (n : ℕ) → 0 + n ≡ n
-zero-plus n = omega arith
+module _ (s places : List ℕ) (m : ℕ) (placed : Placed s places m) (p₀ l₀ p l : List ℕ) (k : ℕ) (i : Passing s p₀ l₀ p l k) where
+  pub passing-done : m ≤ k → AllWritten s p₀ l₀ p l
+  passing-done h = record {
+    words-are = λ ts f few. left-words (literals ts) p₀ l₀ p l k (i .left ts f few) (rw (← placed .count ts f) h);
+    bytes-are = λ ts f few. left-bytes (literals ts) p₀ l₀ p l k (i .left ts f few) (rw (← placed .count ts f) h);
+  }
 
-module _ (s p₀ l₀ p l : List ℕ) (k at : ℕ) (i : Passing s p₀ l₀ p l k at) where
-  ended : Gives (from p₀ l₀ 0) s 0 (from p l k []) → AllWritten s p₀ l₀ p l k
-  unfolding rest from literals write-literal-lengths write-literals
-  ended g = record { is = λ ts f. ap (both p l) (plus-zero k) ∙ sym (g .gives ts f) ∙ ap (both _ _) (zero-plus (length (literals ts))) }
+  pub passing-again : k < m → (at : ℕ) (p' l' : List ℕ) → Written s at k p l p' l' → (j : ℕ) → at ≡ word places j → j ≡ k → length p' ≡ length p → length l' ≡ length l → Passing s p₀ l₀ p' l' (k + 1)
+  passing-again h at p' l' written j ea ej zp zl = record {
+    words-size = zp ∙ i .words-size;
+    bytes-size = zl ∙ i .bytes-size;
+    left = λ ts f few. rw (written .words-are _ (here ts f few), written .bytes-are _ (here ts f few)) (left-more (literals ts) p₀ l₀ p l k (i .left ts f few) (rw (← placed .count ts f) h));
+  }
     where
-      plus-zero : (k : ℕ) → k ≡ k + 0
-      plus-zero k = omega arith
-
-  pub passing-done : length s ≤ at → AllWritten s p₀ l₀ p l k
-  passing-done h = ended (go-done _ s 0 _ at (i .going) h)
-
-  pub passing-counted : Short s → at < length s → Counted s k
-  passing-counted h g = record { short = h; few = omega (arith, h .short, i .fewer) }
-
-  module _ (r : TokenRead) (found : TokenAt class s at r) where
-    pub passing-none : OneOf (0 ∷ 1 ∷ []) (tagOf the-type r) → AllWritten s p₀ l₀ p l k
-    passing-none o = go r refl o
-      where
-        go : (q : TokenRead) → r ≡ q → OneOf (0 ∷ 1 ∷ []) (tagOf the-type q) → AllWritten s p₀ l₀ p l k
-        go TokenRead.End h o = ended (go-end _ s 0 _ at (i .going) r found h)
-        go TokenRead.NoToken h o = ended (go-none _ s 0 _ at (i .going) r found h _)
-        go (TokenRead.Token k a p x) h o = absurd (miss (0 ∷ 1 ∷ []) 2 tt o)
-
-    module _ (j a q w : ℕ) (h : r ≡ TokenRead.Token j a q w) (p' l' : List ℕ) (k' : ℕ) (written : Written s p l k j a q p' l' k') where
-      step : (us : List Token) → from p l k (token-of s j a q w ∷ us) ≡ from p' l' k' us
-      unfolding from
-      step us = go (eqb j 27) refl (written .words-are) (written .bytes-are) (written .count-is)
-        where
-          spot : Spot at (length s) j a q
-          spot = spot-of r (found .on) h
-
-          go : (t : Bool) → eqb j 27 ≡ t → p' ≡ (if t then set-literal-length p k (length (part s (a + 1) (q - 1))) else p)
-              → l' ≡ (if t then write-literal-bytes (part s (a + 1) (q - 1)) k 0 l else l) → k' ≡ (if t then k + 1 else k)
-              → from p l k (token-of s j a q w ∷ us) ≡ from p' l' k' us
-          go true x ep el ek = rw (eqb-true j 27 x, ep, el, ek) (from-string s p l k a q w us)
-          go false x ep el ek = rw (ep, el, ek, literals-other (token-of s j a q w) us (λ f. eqb-false j 27 x (sym (kind-is s a q w j (spot .known)) ∙ f)))
-
-      pub passing-again : length p' ≡ length p → length l' ≡ length l → Passing s p₀ l₀ p' l' k' q
-      passing-again zp zl = record {
-        words-size = zp ∙ i .words-size;
-        bytes-size = zl ∙ i .bytes-size;
-        fewer = few (eqb j 27) (written .count-is);
-        going = go-again _ s 0 _ at (i .going) r found j a q w h _ (λ us f. step us);
-      }
-        where
-          spot : Spot at (length s) j a q
-          spot = spot-of r (found .on) h
-
-          few : (t : Bool) → k' ≡ (if t then k + 1 else k) → k' ≤ q
-          few true e = omega (arith, i .fewer, spot .begins, spot .more)
-          few false e = omega (arith, i .fewer, spot .begins, spot .more)
+      here : (ts : List Token) → tokens class s ≡ some ts → length (literals ts) ≤ 128 → StringAt s at (getD (literals ts) k [])
+      here ts f few = rw (ea, ej) (placed .strings ts f k h (omega (arith, placed .count ts f)))

@@ -2,8 +2,9 @@
 ghost use mathlib.Core.Path.{_≡_};
 ghost use Rattle.sweep.specs.Decides.{Short};
 ghost use Rattle.token_cache.specs.Cache.{Cached};
+ghost use Rattle.strings.specs.Places.{Placed};
 ghost use Rattle.emission.specs.Emit.{write-literal-bytes};
-ghost use Rattle.emit_literals.specs.Literals.{Written, Counted, AllWritten};
+ghost use Rattle.emit_literals.specs.Literals.{Written, AllWritten};
 use token::TokenRead;
 use words::wide;
 
@@ -20,34 +21,37 @@ fn write_bytes(l: &mut [u8], k: u32, w: &[u8])
     }
 }
 
-// A token of kind j, where it is a string, as literal k: how many literals there are after it.
-fn write_literal(s: &[u8], p: &mut [u32], l: &mut [u8], k: u32, j: u32, a: usize, q: usize) -> u32
-    requires { ⌜ Counted (now s) k ⌝ }
-    ensures { λ r. ⌜ Written (now (s .entry)) (now (p .entry)) (now (l .entry)) k j a q (now (p .exit)) (now (l .exit)) r ⌝ }
+// The string at a position as literal k.
+fn write_literal(c: &[u64; 16384], s: &[u8], at: usize, k: u32, p: &mut [u32], l: &mut [u8])
+    requires { ⌜ Cached (now c) (now s) × Short (now s) ⌝ }
+    ensures { λ _. ⌜ Written (now (s .entry)) at k (now (p .entry)) (now (l .entry)) (now (p .exit)) (now (l .exit)) ⌝ }
 {
-    if j != 27 {
-        return k;
-    }
+    let t = token_cache::token_in(c, s, at);
+    let TokenRead::Token(_j, a, q, _w) = t else {
+        return;
+    };
     let w = token::string_bytes(s, a, q);
     table_updates::set_literal_length(p, k, w.len() as u32);
     write_bytes(l, k, w);
-    k + 1
 }
 
-// The literals of the source in order: how many there are.
-pub fn write_literals(c: &[u64; 16384], s: &[u8], p: &mut [u32], l: &mut [u8]) -> u32
+// The m literals of the source in order, each from its place.
+pub fn write_literals(
+    c: &[u64; 16384],
+    s: &[u8],
+    places: &[usize],
+    m: u32,
+    p: &mut [u32],
+    l: &mut [u8],
+)
     requires { ⌜ Cached (now c) (now s) × Short (now s) ⌝ }
-    ensures { λ r. ⌜ AllWritten (now (s .entry)) (now (p .entry)) (now (l .entry)) (now (p .exit)) (now (l .exit)) r ⌝ }
+    requires placed { ⌜ Placed (now s) (now places) m ⌝ }
+    ensures { λ _. ⌜ AllWritten (now (s .entry)) (now (p .entry)) (now (l .entry)) (now (p .exit)) (now (l .exit)) ⌝ }
 {
     let mut k = 0;
-    let mut at = 0;
-    while at < s.len() {
-        let t = token_cache::token_in(c, s, at);
-        let TokenRead::Token(j, a, q, _w) = t else {
-            return k;
-        };
-        k = write_literal(s, p, l, k, j, a, q);
-        at = q;
+    while k < m {
+        let at = names::place(places, wide(k));
+        write_literal(c, s, at, k, p, l);
+        k += 1;
     }
-    k
 }

@@ -1,84 +1,38 @@
--- Laws of the names kept: the number of a name, the loop that keeps them, and the name table as it is written. Assumes nothing.
+-- Laws of the names kept: the number of a name by its note, and the name table as it is written. Assumes nothing.
 use mathlib.Core.Path.{_≡_, refl, sym, ap, _∙_}
-use mathlib.Core.Bool.{Bool, true, false}
 use mathlib.Core.List.{List, [], _∷_, _++_}
-use Prim.Native.Nat.{ℕ, zero, suc, _+_, _-_, _*_, _<_, _≤_}
-use native.Mathlib.Numerals.{add-one, unary-clauses}
+use Prim.Native.Nat.{ℕ, suc, _+_, _-_, _*_, _<_, _≤_}
+use native.Mathlib.Numerals.{add-one}
 use native.Mathlib.Omega.{arith}
 use native.Mathlib.Nat.{min-le-right}
 use lib.ListN.{length, drop, getD, drop-of-length-le, length-take, length-drop}
 use lib.Seq.{drop-cons}
-use Rattle.framed.specs.Common.{if_then_else_, same}
-use Rattle.framed.specs.Tokens.{token}
 use Rattle.framed.specs.Symbols.{number-in}
 use Rattle.source.specs.Positions.{part}
 use Rattle.words.specs.Words.{word, set-word}
 use Rattle.words.proofs.Laws.{set-size}
 use Rattle.sweep.specs.Decides.{Short}
-use Rattle.shapes.proofs.Names.{same-equal}
-use Rattle.names.specs.Kept.{table-of, Numbered}
-use Rattle.names.proofs.Laws.{table-length, number-last, number-stays}
+use Rattle.token_cache.specs.Cache.{note-at}
+use Rattle.grammar.specs.Runs.{Sees}
+use Rattle.grammar.specs.declared.Seen.{Seen}
+use Rattle.names.specs.Kept.{table-of}
+use Rattle.names.proofs.Laws.{table-length}
+use Rattle.names.proofs.Notes.{leads-number}
 use Rattle.table_updates.specs.Updates.{set-name-length, set-name-byte}
 use Rattle.emission.specs.Emit.{write-name-bytes, write-names}
-use Rattle.emit_names.specs.Table.{write-kept}
+use Rattle.emit_names.specs.Table.{Ready, NameAt, write-kept}
 
--- ---- The number of a name
+-- ---- The number of a name by its note
 
--- a number found among the first k is the number among more of them
-table-stays : (s b e w : List ℕ) (k j d : ℕ) → number-in (table-of s b e k) w ≡ j → j < k → number-in (table-of s b e (k + d)) w ≡ j
-unfolding table-of
-table-stays s b e w k j zero h l = simp unary-clauses h
-table-stays s b e w k j (suc d) h l =
-    let g = table-stays s b e w k j d h l in
-    simp unary-clauses (number-stays (table-of s b e (k + d)) _ w (omega (arith, g, table-length s b e (k + d))) ∙ g)
-
--- none of the first k is the word
-pub record Seeking (s b e : List ℕ) (n : ℕ) (w : List ℕ) (k : ℕ) : Type 0 where
-  pub within : k ≤ n
-  pub not-yet : number-in (table-of s b e k) w ≡ k
-
-pub seek-start : (s b e : List ℕ) (n : ℕ) (w : List ℕ) → Seeking s b e n w 0
-unfolding table-of number-in
-seek-start s b e n w = record { within = omega arith; not-yet = refl }
-
-pub seek-end : (s b e : List ℕ) (n : ℕ) (w : List ℕ) (k : ℕ) → Seeking s b e n w k → n ≤ k → n ≡ number-in (table-of s b e n) w
-seek-end s b e n w k i l = go (same-number k n (i .within) l)
+pub noted-number : (c s b e : List ℕ) (n at a p : ℕ) → Ready c s b e n → NameAt s at a p → (g : ℕ) → g ≡ note-at c at → (g ≡ 0 → ⊥) → g - 1 ≡ number-in (table-of s b e n) (part s a p)
+noted-number c s b e n at a p i t g eg ne = sym (leads-number (i .led) (i .numbered) (sym eg ∙ more g ne) (t .read))
   where
-    same-number : (k n : ℕ) → k ≤ n → n ≤ k → k ≡ n
-    same-number k n a b = omega arith
+    more : (g : ℕ) → (g ≡ 0 → ⊥) → g ≡ suc (g - 1)
+    more g ne = omega arith
 
-    go : k ≡ n → n ≡ number-in (table-of s b e n) w
-    go h = sym (rw h at (i .not-yet))
-
-module _ (s b e : List ℕ) (n : ℕ) (w : List ℕ) (k : ℕ) (i : Seeking s b e n w k) (l : k < n) (x y j j' : ℕ) (ej : j ≡ k) (ex : x ≡ word b j) (ej' : j' ≡ k) (ey : y ≡ word e j')
-    (v : List ℕ) (ev : v ≡ part s x y) (t : Bool) (h : t ≡ same v w) where
-  seek-last : number-in (table-of s b e (suc k)) w ≡ (if t then k else suc k)
-  unfolding table-of
-  seek-last =
-      number-last (table-of s b e k) (part s (word b k) (word e k)) w (i .not-yet ∙ sym (table-length s b e k))
-      ∙ rw (table-length s b e k, h, ev, ex, ey, ej, ej')
-
-  pub seek-found : t ≡ true → k ≡ number-in (table-of s b e n) w
-  seek-found d = sym (ap (λ (m : ℕ). number-in (table-of s b e m) w) (split k n l) ∙ table-stays s b e w (suc k) k (n - suc k) (rw d at seek-last) (omega arith))
-    where
-      split : (k n : ℕ) → k < n → n ≡ suc k + (n - suc k)
-      split k n l = omega arith
-
-  pub seek-again : t ≡ false → Seeking s b e n w (k + 1)
-  seek-again d = rw (add-one k) (record { within = omega arith; not-yet = rw d at seek-last })
-
--- the number of the bytes of a token
-pub number-part : (table : List (List ℕ)) (v w : List ℕ) → v ≡ w → (r : ℕ) → r ≡ number-in table v → r ≡ number-in table w
-number-part table v w e r h = h ∙ ap (number-in table) e
-
--- ---- Each name kept is found at its own number
-
--- the number where the hint leads to the name itself
-pub number-there : (s b e : List ℕ) (n a p : ℕ) → Numbered s b e n → (k : ℕ) → k < n → (j j' x y : ℕ) → j ≡ k → x ≡ word b j → j' ≡ k → y ≡ word e j' →
-    (t : Bool) → t ≡ same (part s x y) (part s a p) → t ≡ true → k ≡ number-in (table-of s b e n) (part s a p)
-number-there s b e n a p i k l j j' x y ej ex ej' ey t h d =
-    let there : part s (word b k) (word e k) ≡ part s a p = rw (← ej, ← ex) (rw (ej, ← ej', ← ey) (same-equal (part s x y) (part s a p) (sym h ∙ d))) in
-    sym (ap (number-in (table-of s b e n)) (sym there) ∙ i .own k l)
+-- a name that was seen at a position
+pub seen-name-at : (s : List ℕ) (at : ℕ) (t : Seen) → Sees s at t → t .kind ≡ 25 → NameAt s at (t .begin) (t .end)
+seen-name-at s at t x e = record { value = t .word; read = rw e at (x .stands (omega arith)) }
 
 -- ---- The bytes of a name
 

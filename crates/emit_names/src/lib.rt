@@ -7,25 +7,8 @@ ghost use Rattle.sweep.specs.Decides.{Short};
 ghost use Rattle.table_updates.specs.Updates.{set-name-length};
 ghost use Rattle.emission.specs.Emit.{write-name-bytes, write-names};
 ghost use lib.ListN.{length};
-ghost use Rattle.emit_names.specs.Table.{write-kept};
+ghost use Rattle.emit_names.specs.Table.{Ready, NameAt, write-kept};
 use words::wide;
-
-// The number of a word among the first n names kept; n where it is none of them.
-pub fn number_of(s: &[u8], begins: &[usize], ends: &[usize], n: u32, w: &[u8]) -> u32
-    ensures { λ r. ⌜ r ≡ number-in (table-of (now (s .entry)) (now (begins .entry)) (now (ends .entry)) n) (now (w .entry)) ⌝ }
-{
-    let mut k = 0;
-    while k < n {
-        let a = names::place(begins, wide(k));
-        let p = names::place(ends, wide(k));
-        let v = token::token_bytes(s, a, p);
-        if lexeme::is_word(v, w) {
-            return k;
-        }
-        k += 1;
-    }
-    n
-}
 
 // The number of the part from a up to p among the first n names kept; n where it is none of them. Where the hint leads to the name itself, no other is looked at.
 pub fn number_at(
@@ -42,15 +25,29 @@ pub fn number_at(
 {
     let g = names::hint(s, hints, a, p);
     let k = emit_steps::less(g, 1);
-    if k < n {
-        let b = names::place(begins, wide(k));
-        let q = names::place(ends, wide(k));
-        if names::same_parts(s, b, q, a, p) {
-            return k;
-        }
+    names::number_from(s, begins, ends, n, k, a, p)
+}
+
+// The same of the name that stands at a position: where its entry in the cache has a note, its bytes are not looked at.
+pub fn number_noted(
+    c: &[u64; 16384],
+    s: &[u8],
+    begins: &[usize],
+    ends: &[usize],
+    hints: &[u8; 4096],
+    n: u32,
+    at: usize,
+    a: usize,
+    p: usize,
+) -> u32
+    requires { ⌜ Ready (now c) (now s) (now begins) (now ends) n × NameAt (now s) at a p ⌝ }
+    ensures { λ r. ⌜ r ≡ number-in (table-of (now (s .entry)) (now (begins .entry)) (now (ends .entry)) n) (part (now (s .entry)) a p) ⌝ }
+{
+    let g = token_cache::note(c, at);
+    if g != 0 {
+        return g - 1;
     }
-    let w = token::token_bytes(s, a, p);
-    number_of(s, begins, ends, n, w)
+    number_at(s, begins, ends, hints, n, a, p)
 }
 
 // The bytes of name k.

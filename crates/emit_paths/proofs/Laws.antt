@@ -24,18 +24,13 @@ use Rattle.grammar.specs.declared.Seen.{Seen}
 use Rattle.names.specs.Kept.{table-of}
 use Rattle.table_updates.specs.Updates.{set-path-name}
 use Rattle.emission.specs.Emit.{Emitting, emitting, emit-path, write-path}
-use Rattle.emit_steps.specs.Steps.{numbers, go-to, take-path-name, place-of, PassTwo}
+use Rattle.emit_steps.specs.Steps.{one-more, numbers, go-to, place-of, PassTwo}
 use Rattle.emit_steps.specs.declared.Next.{Next}
 use Rattle.emit_steps.proofs.Laws.{more-one}
-use Rattle.emit_paths.specs.Emits.{Ahead, Small, Emitted, Emits, NamesHere, NoUp, UpsDone, UpsRead, Stays, HolderDone, PlaceOk, PathHere, UpHere, path-emitted}
+use Rattle.emit_paths.specs.Emits.{Ahead, Small, Emitted, Emits, NamesHere, arrived, DottedEmits, NoUp, UpsDone, UpsRead, HolderDone, PlaceOk, PathHere, UpHere, path-emitted}
+use Rattle.emit_paths.specs.declared.PathEnd.{PathEnd}
 use Rattle.emit_paths.specs.declared.Levels.{Levels}
 use Rattle.emit_paths.proofs.Symbols.{cons-rest, pass-both, pass-no-up, nothing-ahead, seen-fixed, seen-name, seen-kind, seen-number, seen-moves, number-ahead}
-
--- what is emitted from here on is what is emitted from the start on
-pub record Leads {A : Type 0} (G : List Symbol → A → List Symbol → Type 0) (E : A → Emitting → Emitting) (s : List ℕ) (table : List (List ℕ)) (n₀ : Next) (p₀ : List ℕ) (n : Next) (p : List ℕ) (at : ℕ) : Type 0 where
-  pub here : at ≡ n .at
-  pub size : length p ≡ length p₀
-  pub back : (p' : List ℕ) (r : Next) → Emits G E s table n p p' r → Emits G E s table n₀ p₀ p' r
 
 -- no path names
 emit-none : (p : List ℕ) (n : Next) → emitting p (numbers n) ≡ emit-path [] (emitting p (numbers n))
@@ -47,7 +42,7 @@ emit-none p n = ap (λ (j : ℕ). emitting p (record { expressions = n .expressi
 
 -- the first of more path names
 emit-one : (p : List ℕ) (n : Next) (m u : ℕ) (ns : List ℕ) → n .paths < 4294967295 →
-    emit-path (m ∷ ns) (emitting p (numbers n)) ≡ emit-path ns (emitting (set-path-name p (n .paths) m) (numbers (take-path-name n u)))
+    emit-path (m ∷ ns) (emitting p (numbers n)) ≡ emit-path ns (emitting (set-path-name p (n .paths) m) (numbers (arrived n u (one-more (n .paths)))))
 unfolding emit-path write-path
 emit-one p n m u ns l = rw (← more-one (n .paths) l)
     (ap (λ (j : ℕ). emitting (write-path ns (n .paths + 1) (set-path-name p (n .paths) m)) (record { expressions = n .expressions; instructions = n .instructions; path-names = j; codes = n .codes })) (along (n .paths) (length ns)))
@@ -63,9 +58,17 @@ room p n m ns h = go (n .paths) (length ns) (h .path-names-small)
     go : (j k : ℕ) → j + suc k < 4294967296 → j < 4294967295
     go j k l = omega arith
 
-module _ (s b e : List ℕ) (count : ℕ) (n₀ : Next) (p₀ : List ℕ) where
-  pub dotted-start : Leads NamesHere emit-path s (table-of s b e count) n₀ p₀ n₀ p₀ (n₀ .at)
-  dotted-start = record { here = refl; size = refl; back = λ p' r x. x }
+-- what is emitted from here on is what is emitted from the start on
+pub record DottedLeads (s : List ℕ) (table : List (List ℕ)) (from paths : ℕ) (p₀ : List ℕ) (at j : ℕ) (p : List ℕ) : Type 0 where
+  pub size : length p ≡ length p₀
+  pub back : (n : Next) (p' : List ℕ) (r : Next) → Emits NamesHere emit-path s table (arrived n at j) p p' r → Emits NamesHere emit-path s table (arrived n from paths) p₀ p' r
+
+abbrev ended-at : ℕ → ℕ → PathEnd
+ended-at at j = record { at = at; paths = j }
+
+module _ (s b e : List ℕ) (count from paths : ℕ) (p₀ : List ℕ) where
+  pub dotted-start : DottedLeads s (table-of s b e count) from paths p₀ from paths p₀
+  dotted-start = record { size = refl; back = λ n p' r x. x }
 
   -- no more names where no step over a dot and a name is made
   no-more : (n : Next) (p : List ℕ) → ((m : ℕ) (us : List Symbol) → Ahead s (table-of s b e count) n (Symbol.fixed Fixed.dot ∷ Symbol.name m ∷ us) → ⊥) →
@@ -76,47 +79,47 @@ module _ (s b e : List ℕ) (count : ℕ) (n₀ : Next) (p₀ : List ℕ) where
       go us vs _ h Names⊢.none = record { is = emit-none p n; ahead = h }
       go _ vs _ h (Names⊢.more {n = m} {ts = ts} d) = absurd (f m ts h)
 
-  module _ (n : Next) (p : List ℕ) (at : ℕ) (i : Leads NamesHere emit-path s (table-of s b e count) n₀ p₀ n p at) where
-    pub dotted-end : length s ≤ at → Emits NamesHere emit-path s (table-of s b e count) n₀ p₀ p n
-    dotted-end l = i .back p n (no-more n p (λ m us h. nothing-ahead s (table-of s b e count) n Fixed.dot _ (rw (i .here) at l) h))
+  module _ (at j : ℕ) (p : List ℕ) (i : DottedLeads s (table-of s b e count) from paths p₀ at j p) where
+    ended : ((n : Next) (m : ℕ) (us : List Symbol) → Ahead s (table-of s b e count) (arrived n at j) (Symbol.fixed Fixed.dot ∷ Symbol.name m ∷ us) → ⊥) →
+        DottedEmits s (table-of s b e count) from paths p₀ p (ended-at at j)
+    ended f = record { says = λ n. i .back n p (arrived n at j) (no-more (arrived n at j) p (f n)) }
 
-  module _ (n : Next) (p : List ℕ) (at : ℕ) (i : Leads NamesHere emit-path s (table-of s b e count) n₀ p₀ n p at) (d : Seen) (x : Sees s at d) where
-    ea : at ≡ n .at
-    ea = i .here
+    pub dotted-end : length s ≤ at → DottedEmits s (table-of s b e count) from paths p₀ p (ended-at at j)
+    dotted-end l = ended (λ n m us h. nothing-ahead s (table-of s b e count) (arrived n at j) Fixed.dot _ l h)
 
-    dot-here : Sees s (n .at) d
-    dot-here = rw (← ea) x
+    module _ (d : Seen) (x : Sees s at d) where
+      pub dotted-none : (d .kind ≡ 7 → ⊥) → DottedEmits s (table-of s b e count) from paths p₀ p (ended-at at j)
+      unfolding front-kind kind-of fixed-kind
+      dotted-none other = ended (λ n m us h. other (sym (seen-kind s (table-of s b e count) (arrived n at j) d x _ h)))
 
-    pub dotted-none : (d .kind ≡ 7 → ⊥) → Emits NamesHere emit-path s (table-of s b e count) n₀ p₀ p n
-    unfolding front-kind kind-of fixed-kind
-    dotted-none other = i .back p n (no-more n p (λ m us h. other (sym (seen-kind s (table-of s b e count) n d dot-here _ h))))
+      module _ (is-dot : d .kind ≡ 7) (t : Seen) (y : Sees s (d .end) t) where
+        pub dotted-half : (t .kind ≡ 25 → ⊥) → DottedEmits s (table-of s b e count) from paths p₀ p (ended-at at j)
+        unfolding front-kind kind-of
+        dotted-half other = ended (λ n m us h. other (sym (seen-kind s (table-of s b e count) (arrived n (d .end) j) t y _
+            (seen-fixed s (table-of s b e count) (arrived n at j) d x Fixed.dot _ h .ahead))))
 
-    module _ (is-dot : d .kind ≡ 7) (t : Seen) (y : Sees s (d .end) t) where
-      pub dotted-half : (t .kind ≡ 25 → ⊥) → Emits NamesHere emit-path s (table-of s b e count) n₀ p₀ p n
-      unfolding front-kind kind-of
-      dotted-half other =
-          i .back p n (no-more n p (λ m us h. other (sym (seen-kind s (table-of s b e count) (go-to n (d .end)) t y _ (seen-fixed s (table-of s b e count) n d dot-here Fixed.dot _ h .ahead)))))
+        pub dotted-less : at < length s → length s - t .end < length s - at
+        dotted-less l = omega (arith, seen-moves s at d x (omega arith), y .on)
 
-      pub dotted-less : at < length s → length s - t .end < length s - at
-      dotted-less l = omega (arith, seen-moves s at d x (omega arith), y .on)
+        module _ (is-name : t .kind ≡ 25) (k : ℕ) (z : k ≡ number-in (table-of s b e count) (part s (t .begin) (t .end))) (p' : List ℕ) (ep : p' ≡ set-path-name p j k) where
+          on-more : (n : Next) (pe : List ℕ) (r : Next) → Emits NamesHere emit-path s (table-of s b e count) (arrived n (t .end) (one-more j)) p' pe r →
+              Emits NamesHere emit-path s (table-of s b e count) (arrived n at j) p pe r
+          on-more n pe r f = record { says = λ us vs ns h g w. go us vs ns h (g .names) (g .no-dot) w; on = omega (arith, f .on, x .on, y .on) }
+            where
+              go : (us vs : List Symbol) (ns : List ℕ) → Ahead s (table-of s b e count) (arrived n at j) us → Names⊢ us ns vs → (front-kind vs ≡ 7 → ⊥) →
+                  Small (emit-path ns (emitting p (numbers (arrived n at j))) .next) → Emitted s (table-of s b e count) (emit-path ns (emitting p (numbers (arrived n at j)))) pe r vs
+              go us vs _ h Names⊢.none nd w = absurd (nd (seen-kind s (table-of s b e count) (arrived n at j) d x us h ∙ is-dot))
+              go _ vs _ h (Names⊢.more {n = m} {ns = ns} {ts = ts} g) nd w =
+                  let h₁ = seen-fixed s (table-of s b e count) (arrived n at j) d x Fixed.dot _ h .ahead in
+                  let h₂ = seen-name s (table-of s b e count) (arrived n (d .end) j) t y m ts h₁ .ahead in
+                  let em : k ≡ m = number-ahead s b e count (arrived n (d .end) j) m k ts (seen-number s b e count (d .end) t y k z) h₁ in
+                  let same : emit-path (m ∷ ns) (emitting p (numbers (arrived n at j))) ≡ emit-path ns (emitting p' (numbers (arrived n (t .end) (one-more j)))) =
+                  emit-one p (arrived n at j) m (t .end) ns (room p (arrived n at j) m ns w) ∙ rw (ep, em) in
+                  rw same (f .says ts vs ns (record { tokens = h₂ .tokens; reads = h₂ .reads; are = h₂ .are; few = h₂ .few }) (record { names = g; no-dot = nd }) (rw same at w))
 
-      module _ (is-name : t .kind ≡ 25) (k : ℕ) (z : k ≡ number-in (table-of s b e count) (part s (t .begin) (t .end))) (p' : List ℕ) (ep : p' ≡ set-path-name p (n .paths) k) where
-        on-more : (pe : List ℕ) (r : Next) → Emits NamesHere emit-path s (table-of s b e count) (take-path-name n (t .end)) p' pe r → Emits NamesHere emit-path s (table-of s b e count) n p pe r
-        on-more pe r f = record { says = λ us vs ns h g w. go us vs ns h (g .names) (g .no-dot) w; on = omega (arith, f .on, ea, x .on, y .on) }
-          where
-            go : (us vs : List Symbol) (ns : List ℕ) → Ahead s (table-of s b e count) n us → Names⊢ us ns vs → (front-kind vs ≡ 7 → ⊥) → Small (emit-path ns (emitting p (numbers n)) .next) →
-                Emitted s (table-of s b e count) (emit-path ns (emitting p (numbers n))) pe r vs
-            go us vs _ h Names⊢.none nd w = absurd (nd (seen-kind s (table-of s b e count) n d dot-here us h ∙ is-dot))
-            go _ vs _ h (Names⊢.more {n = m} {ns = ns} {ts = ts} g) nd w =
-                let h₁ = seen-fixed s (table-of s b e count) n d dot-here Fixed.dot _ h .ahead in
-                let h₂ = seen-name s (table-of s b e count) (go-to n (d .end)) t y m ts h₁ .ahead in
-                let em : k ≡ m = number-ahead s b e count (go-to n (d .end)) m k ts (seen-number s b e count (d .end) t y k z) h₁ in
-                let same : emit-path (m ∷ ns) (emitting p (numbers n)) ≡ emit-path ns (emitting p' (numbers (take-path-name n (t .end)))) = emit-one p n m (t .end) ns (room p n m ns w) ∙ rw (ep, em) in
-                rw same (f .says ts vs ns (record { tokens = h₂ .tokens; reads = h₂ .reads; are = h₂ .are; few = h₂ .few }) (record { names = g; no-dot = nd }) (rw same at w))
-
-        pub dotted-again : (n' : Next) → n' ≡ take-path-name n (t .end) → Leads NamesHere emit-path s (table-of s b e count) n₀ p₀ n' p' (t .end)
-        unfolding set-path-name
-        dotted-again n' en = rw en (record { here = refl; size = ap length ep ∙ set-size p _ _ ∙ i .size; back = λ pe r f. i .back pe r (on-more pe r f) })
+          pub dotted-again : (j' : ℕ) → j' ≡ one-more j → DottedLeads s (table-of s b e count) from paths p₀ (t .end) j' p'
+          unfolding set-path-name
+          dotted-again j' ej = rw ej (record { size = ap length ep ∙ set-size p _ _ ∙ i .size; back = λ n pe r f. i .back n pe r (on-more n pe r f) })
 
 -- ---- Further `^`
 
@@ -170,45 +173,48 @@ module _ (s : List ℕ) (from depth at d : ℕ) (i : UpsLeads s from depth at d)
 
 -- ---- The names of a place
 
-pub record Holding (names : List ℕ) (levels : ℕ) (n₀ : Next) (p₀ : List ℕ) (m : Next) (p : List ℕ) (i : ℕ) : Type 0 where
+pub record Holding (names : List ℕ) (levels paths : ℕ) (p₀ : List ℕ) (j : ℕ) (p : List ℕ) (i : ℕ) : Type 0 where
   pub within : i ≤ levels
   pub size : length p ≡ length p₀
-  pub stays : Stays n₀ m
-  pub is : levels ≤ 16 → length names ≡ 16 → Small (emit-path (take levels names) (emitting p₀ (numbers n₀)) .next) →
-      emit-path (take levels names) (emitting p₀ (numbers n₀)) ≡ emit-path (drop i (take levels names)) (emitting p (numbers m))
+  pub next : paths + levels < 4294967296 → j ≡ paths + i
+  pub words : levels ≤ 16 → length names ≡ 16 → paths + levels < 4294967296 →
+      write-path (take levels names) paths p₀ ≡ write-path (drop i (take levels names)) j p
 
-pub holding-start : (names : List ℕ) (levels : ℕ) (n : Next) (p : List ℕ) → Holding names levels n p n p 0
-holding-start names levels n p = record { within = omega arith; size = refl; stays = record { at-is = refl; strings-is = refl; codes-is = refl }; is = λ a b c. refl }
+pub holding-start : (names : List ℕ) (levels paths : ℕ) (p : List ℕ) → Holding names levels paths p paths p 0
+holding-start names levels paths p = record { within = omega arith; size = refl; next = λ c. omega arith; words = λ a b c. refl }
 
-module _ (names : List ℕ) (levels : ℕ) (n₀ : Next) (p₀ : List ℕ) (m : Next) (p : List ℕ) (i : ℕ) (h : Holding names levels n₀ p₀ m p i) where
+module _ (names : List ℕ) (levels paths : ℕ) (p₀ : List ℕ) (j : ℕ) (p : List ℕ) (i : ℕ) (h : Holding names levels paths p₀ j p i) where
   long : levels ≤ 16 → length names ≡ 16 → length (take levels names) ≡ levels
   long a b = length-take-le levels names (omega arith)
 
-  pub holding-done : levels ≤ i → HolderDone names levels n₀ p₀ p m
+  pub holding-done : levels ≤ i → HolderDone names levels paths p₀ p j
+  unfolding write-path
   holding-done l = record {
-    is = λ a b c. emit-none p m ∙ ap (λ (ns : List ℕ). emit-path ns (emitting p (numbers m))) (sym (drop-of-length-le (take levels names) {i = i} (omega (arith, long a b)))) ∙ sym (h .is a b c);
-    stays = h .stays;
+    words = λ a b c. sym (h .words a b c ∙ ap (λ (ns : List ℕ). write-path ns j p) (drop-of-length-le (take levels names) {i = i} (omega (arith, long a b))));
+    next = λ a c. omega (arith, h .next c, h .within);
   }
 
   module _ (l : i < levels) where
-    pub holding-full : 16 ≤ i → HolderDone names levels n₀ p₀ p m
-    holding-full f = record { is = λ a b c. absurd (over a); stays = h .stays }
+    pub holding-full : 16 ≤ i → HolderDone names levels paths p₀ p j
+    holding-full f = record { words = λ a b c. absurd (over a); next = λ a c. absurd (over a) }
       where
         over : levels ≤ 16 → ⊥
         over a = omega arith
 
-    module _ (j v : ℕ) (ej : j ≡ i) (ev : v ≡ getD names j 0) (p' : List ℕ) (ep : p' ≡ set-path-name p (m .paths) v) (m' : Next) (em : m' ≡ take-path-name m (m .at)) where
+    module _ (k v : ℕ) (ek : k ≡ i) (ev : v ≡ getD names k 0) (p' : List ℕ) (ep : p' ≡ set-path-name p j v) (j' : ℕ) (ej : j' ≡ one-more j) where
       cons-is : levels ≤ 16 → length names ≡ 16 → drop i (take levels names) ≡ v ∷ drop (i + 1) (take levels names)
-      cons-is a b = rw (add-one i) (drop-cons (take levels names) i 0 (omega (arith, long a b)) ∙ rw (getD-take levels names i 0 l, ev, ej))
+      cons-is a b = rw (add-one i) (drop-cons (take levels names) i 0 (omega (arith, long a b)) ∙ rw (getD-take levels names i 0 l, ev, ek))
 
-      pub holding-again : Holding names levels n₀ p₀ m' p' (i + 1)
-      unfolding set-path-name
+      one-on : paths + levels < 4294967296 → j' ≡ j + 1
+      one-on c = ej ∙ sym (more-one j (omega (arith, h .next c)))
+
+      pub holding-again : Holding names levels paths p₀ j' p' (i + 1)
+      unfolding set-path-name write-path
       holding-again = record {
         within = omega arith;
         size = ap length ep ∙ set-size p _ _ ∙ h .size;
-        stays = rw em (record { at-is = h .stays .at-is; strings-is = h .stays .strings-is; codes-is = h .stays .codes-is });
-        is = λ a b c. let e = h .is a b c ∙ ap (λ (ns : List ℕ). emit-path ns (emitting p (numbers m))) (cons-is a b) in
-            e ∙ emit-one p m v (m .at) (drop (i + 1) (take levels names)) (room p m v (drop (i + 1) (take levels names)) (rw e at c)) ∙ rw (ep, em);
+        next = λ c. omega (arith, h .next c, one-on c);
+        words = λ a b c. h .words a b c ∙ ap (λ (ns : List ℕ). write-path ns j p) (cons-is a b) ∙ rw (ep, one-on c);
       }
 
 -- ---- A path that begins with `^`
@@ -265,36 +271,39 @@ no-up-after _ vs _ (Names⊢.more d) f = record { no-up = λ x ws e g h. absurd 
     other e = omega arith
 
 module _ (s b e : List ℕ) (count : ℕ) (place : Place) (n : Next) (p : List ℕ) (t : Seen) (x : Sees s (n .at) t) (u : Levels) (y : UpsRead s (t .end) (place .depth) u)
-    (k : Next) (ek : k ≡ go-to n (u .at)) (p₁ : List ℕ) (m : Next) (z : HolderDone (place .names) (u .levels) k p p₁ m) (p' : List ℕ) (r : Next)
-    (f : Emits NamesHere emit-path s (table-of s b e count) m p₁ p' r) where
+    (p₁ : List ℕ) (m : ℕ) (z : HolderDone (place .names) (u .levels) (n .paths) p p₁ m) (p' : List ℕ) (d : PathEnd)
+    (f : DottedEmits s (table-of s b e count) (u .at) m p₁ p' d) where
+  -- the names of the place are emitted
+  held : u .levels ≤ 16 → length (place .names) ≡ 16 → Small (emit-path (take (u .levels) (place .names)) (emitting p (numbers n)) .next) →
+      emitting p₁ (numbers (arrived n (u .at) m)) ≡ emit-path (take (u .levels) (place .names)) (emitting p (numbers n))
+  unfolding emit-path
+  held a b l =
+      let e : length (take (u .levels) (place .names)) ≡ u .levels = length-take-le (u .levels) (place .names) (omega arith) in
+      let c : n .paths + u .levels < 4294967296 = rw e at (l .path-names-small) in
+      rw (z .words a b c, z .next a c, e)
+
   up-says : (us vs : List Symbol) (w : Written) → Ahead s (table-of s b e count) n us → Path⊢ us w vs → (front-kind vs ≡ 7 → ⊥) → PlaceOk place → (front-kind us ≡ 1 → ⊥) →
-      Small (path-emitted place w (emitting p (numbers n)) .next) → Emitted s (table-of s b e count) (path-emitted place w (emitting p (numbers n))) p' r vs
+      Small (path-emitted place w (emitting p (numbers n)) .next) → Emitted s (table-of s b e count) (path-emitted place w (emitting p (numbers n))) p' (arrived n (d .at) (d .paths)) vs
   unfolding fixed-kind front-kind kind-of path-emitted
-  up-says _ vs _ h (Path⊢.self d) nd ok ns l = absurd (ns refl)
-  up-says _ vs _ h (Path⊢.up {k = j} {ns = ns} {ts = ts} {us = us} d g) nd ok ne l =
+  up-says _ vs _ h (Path⊢.self _) nd ok ns l = absurd (ns refl)
+  up-says _ vs _ h (Path⊢.up {k = j} {ns = ns} {ts = ts} {us = us} v g) nd ok ne l =
       let h₁ = seen-fixed s (table-of s b e count) n t x Fixed.up ts h .ahead in
-      let a = y .says (table-of s b e count) (go-to n (t .end)) ts us j refl h₁ d (no-up-after us vs ns g nd) in
+      let a = y .says (table-of s b e count) (go-to n (t .end)) ts us j refl h₁ v (no-up-after us vs ns g nd) in
+      let h₂ = a .ahead in
       let first = take (u .levels) (place .names) in
       let t₀ = emitting p (numbers n) in
       let same : emit-path (names-of (resolve-path (place-of place) (Written.up j ns))) t₀ ≡ emit-path ns (emit-path first t₀) =
       ap (λ (ms : List ℕ). emit-path ms t₀) (up-names place ok j ns ∙ rw (a .levels-are)) ∙ emit-append first ns t₀ in
       let l₁ = rw same at l in
-      let held : emitting p₁ (numbers m) ≡ emit-path first t₀ = rw ek at (z .is (omega (arith, a .levels-are, ok .deep)) (ok .sixteen) (rw ek (small-first first ns t₀ l₁))) in
-      rw (same, ← held) (f .says us vs ns (rest-ahead us (a .ahead)) (record { names = g; no-dot = nd }) (rw held l₁))
-    where
-      rest-ahead : (us : List Symbol) → Ahead s (table-of s b e count) (go-to n (u .at)) us → Ahead s (table-of s b e count) m us
-      rest-ahead us h = record {
-        tokens = h .tokens;
-        reads = rw (z .stays .at-is, ek) (h .reads);
-        are = rw (z .stays .strings-is, z .stays .codes-is, ek) (h .are);
-        few = rw (z .stays .strings-is, ek) (h .few);
-      }
+      let so = held (omega (arith, a .levels-are, ok .deep)) (ok .sixteen) (small-first first ns t₀ l₁) in
+      rw (same, ← so)
+      (f .says n .says us vs ns (record { tokens = h₂ .tokens; reads = h₂ .reads; are = h₂ .are; few = h₂ .few }) (record { names = g; no-dot = nd }) (rw so l₁))
 
-  pub up-emits : Emits (UpHere place) (path-emitted place) s (table-of s b e count) n p p' r
-  up-emits = record {
+  pub up-emits : (r : Next) → r ≡ arrived n (d .at) (d .paths) → Emits (UpHere place) (path-emitted place) s (table-of s b e count) n p p' r
+  up-emits r er = rw er (record {
     says = λ us vs w h g l. up-says us vs w h (g .here .path) (g .here .no-dot) (g .here .ok) (g .not-self) l;
-    on = omega (arith, x .on, y .on, f .on, z .stays .at-is, ap (λ (a : Next). a .at) ek);
-  }
+    on = omega (arith, x .on, y .on, f .says n .on);
+  })
 
 -- ---- A path
 
@@ -302,17 +311,16 @@ module _ (s b e : List ℕ) (count : ℕ) (place : Place) (n : Next) (p : List �
   eight : _≡_ {A = ℕ} 8 1 → ⊥
   eight a = omega arith
 
-  module _ (k : t .kind ≡ 1) (m : Next) (em : m ≡ go-to n (t .end)) (p' : List ℕ) (r : Next) (f : Emits NamesHere emit-path s (table-of s b e count) m p p' r) where
+  module _ (k : t .kind ≡ 1) (p' : List ℕ) (d : PathEnd) (f : DottedEmits s (table-of s b e count) (t .end) (n .paths) p p' d) where
     self-says : (us vs : List Symbol) (w : Written) → Ahead s (table-of s b e count) n us → Path⊢ us w vs → (front-kind vs ≡ 7 → ⊥) →
-        Small (path-emitted place w (emitting p (numbers n)) .next) → Emitted s (table-of s b e count) (path-emitted place w (emitting p (numbers n))) p' r vs
+        Small (path-emitted place w (emitting p (numbers n)) .next) → Emitted s (table-of s b e count) (path-emitted place w (emitting p (numbers n))) p' (arrived n (d .at) (d .paths)) vs
     unfolding fixed-kind front-kind kind-of path-emitted names-of resolve-path
-    self-says _ vs _ h (Path⊢.self {ns = ns} {ts = ts} d) nd a =
-        let g = rw em at f in
-        g .says ts vs ns (seen-fixed s (table-of s b e count) n t x Fixed.self ts h .ahead) (record { names = d; no-dot = nd }) a
-    self-says us vs _ h (Path⊢.up d g) nd a = absurd (eight (seen-kind s (table-of s b e count) n t x us h ∙ k))
+    self-says _ vs _ h (Path⊢.self {ns = ns} {ts = ts} g) nd a =
+        f .says n .says ts vs ns (seen-fixed s (table-of s b e count) n t x Fixed.self ts h .ahead) (record { names = g; no-dot = nd }) a
+    self-says us vs _ h (Path⊢.up v g) nd a = absurd (eight (seen-kind s (table-of s b e count) n t x us h ∙ k))
 
-    pub path-self : Emits (PathHere place) (path-emitted place) s (table-of s b e count) n p p' r
-    path-self = record { says = λ us vs w h g a. self-says us vs w h (g .path) (g .no-dot) a; on = omega (arith, x .on, f .on, ap (λ (a : Next). a .at) em) }
+    pub path-self : (r : Next) → r ≡ arrived n (d .at) (d .paths) → Emits (PathHere place) (path-emitted place) s (table-of s b e count) n p p' r
+    path-self r er = rw er (record { says = λ us vs w h g a. self-says us vs w h (g .path) (g .no-dot) a; on = omega (arith, x .on, f .says n .on) })
 
   pub path-up : (t .kind ≡ 1 → ⊥) → (p' : List ℕ) (r : Next) → Emits (UpHere place) (path-emitted place) s (table-of s b e count) n p p' r → Emits (PathHere place) (path-emitted place) s (table-of s b e count) n p p' r
   path-up k p' r f = record {

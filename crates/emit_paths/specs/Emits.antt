@@ -10,12 +10,13 @@ use Rattle.framed.specs.Grammar.{Names⊢, Ups⊢, Path⊢}
 use Rattle.source.specs.Positions.{rest}
 use Rattle.sweep.specs.Kinds.{kind-of, front-kind}
 use Rattle.shapes.specs.Numbers.{Numbers}
-use Rattle.emission.specs.Emit.{Emitting, emitting, emit-path}
+use Rattle.emission.specs.Emit.{Emitting, emitting, emit-path, write-path}
 use Rattle.emit_steps.specs.Steps.{numbers, go-to, place-of}
 use Rattle.framed.specs.Tree.{Written}
 use Rattle.framed.specs.Paths.{names-of, resolve-path}
 use Rattle.emit_steps.specs.declared.Next.{Next}
 use Rattle.emit_steps.specs.declared.Place.{Place}
+use Rattle.emit_paths.specs.declared.PathEnd.{PathEnd}
 use Rattle.emit_paths.specs.declared.Levels.{Levels}
 
 -- us are the symbols of the source from where n stands; strings and codes go on from its numbers
@@ -47,6 +48,15 @@ pub record NamesHere (us : List Symbol) (ns : List ℕ) (vs : List Symbol) : Typ
   pub names : Names⊢ us ns vs
   pub no-dot : front-kind vs ≡ 7 → ⊥
 
+-- n at another position, with another number of the next path name
+abbrev pub arrived : Next → ℕ → ℕ → Next
+arrived n at paths =
+    record { at = at; expressions = n .expressions; instructions = n .instructions; paths = paths; strings = n .strings; codes = n .codes }
+
+-- the names after dots from there on are path names from `paths` on, whatever the other numbers are
+pub record DottedEmits (s : List ℕ) (table : List (List ℕ)) (from paths : ℕ) (p p' : List ℕ) (r : PathEnd) : Type 0 where
+  pub says : (n : Next) → Emits NamesHere emit-path s table (arrived n from paths) p p' (arrived n (r .at) (r .paths))
+
 -- no dot and `^`
 pub record NoUp (vs : List Symbol) : Type 0 where
   pub no-up : (x : Symbol) (ws : List Symbol) → vs ≡ x ∷ ws → kind-of x ≡ 7 → front-kind ws ≡ 8 → ⊥
@@ -60,17 +70,10 @@ pub record UpsRead (s : List ℕ) (at depth : ℕ) (r : Levels) : Type 0 where
   pub says : (table : List (List ℕ)) (n : Next) (us vs : List Symbol) (k : ℕ) → n .at ≡ at → Ahead s table n us → Ups⊢ us k vs → NoUp vs → UpsDone s table n depth k vs r
   pub on : at ≤ r .at
 
--- only path names were taken
-pub record Stays (n r : Next) : Type 0 where
-  pub at-is : r .at ≡ n .at
-  pub strings-is : r .strings ≡ n .strings
-  pub codes-is : r .codes ≡ n .codes
-
--- the first names, of those of a place, are path names
-pub record HolderDone (names : List ℕ) (levels : ℕ) (n : Next) (p p' : List ℕ) (r : Next) : Type 0 where
-  pub is : levels ≤ 16 → length names ≡ 16 → Small (emit-path (take levels names) (emitting p (numbers n)) .next) →
-      emitting p' (numbers r) ≡ emit-path (take levels names) (emitting p (numbers n))
-  pub stays : Stays n r
+-- the first names, of those of a place, are path names from `paths` on, and r is the next number
+pub record HolderDone (names : List ℕ) (levels paths : ℕ) (p p' : List ℕ) (r : ℕ) : Type 0 where
+  pub words : levels ≤ 16 → length names ≡ 16 → paths + levels < 4294967296 → p' ≡ write-path (take levels names) paths p
+  pub next : levels ≤ 16 → paths + levels < 4294967296 → r ≡ paths + levels
 
 -- a place that has room for its names
 pub record PlaceOk (place : Place) : Type 0 where

@@ -14,6 +14,7 @@ use Rattle.framed.specs.Program.{Program, program, program-of}
 use Rattle.sweep.specs.Decides.{Short}
 use Rattle.names.specs.Kept.{table-of, Kept}
 use Rattle.names.proofs.Laws.{table-length}
+use Rattle.strings.specs.Places.{Placed}
 use Rattle.table_updates.specs.Updates.{set-frame-limit, set-text-limit, set-names, set-literals, set-expressions, set-instructions, set-codes, set-path-names, set-program-slots, set-start}
 use Rattle.trees.specs.Held.{program-held}
 use Rattle.shapes.specs.Numbers.{zeros, slots-size}
@@ -24,7 +25,7 @@ use Rattle.emission_accepted.proofs.Kept.{accepted-kept}
 use Rattle.accepted.specs.Accepted.{SourceFits}
 use Rattle.accepted.proofs.Accepted.{accepted-sources}
 use Rattle.accepted.proofs.Start.{accepted-start}
-use Rattle.emit_literals.specs.Literals.{Both, both, AllWritten}
+use Rattle.emit_literals.specs.Literals.{AllWritten}
 use Rattle.emit_steps.specs.Steps.{numbers}
 use Rattle.emit_steps.specs.declared.Next.{Next}
 use Rattle.emit_tree.specs.Tree.{TreeEmitted, FirstSlot}
@@ -103,32 +104,39 @@ module _ (m : Lengths) (s : List ℕ) (F T : ℕ) (q : Program) (re : refusal m 
   few-names : length (name-table ts) ≤ 128
   few-names = rw names-are (accepted-shaped m s F T q re pr .names-most)
 
+  few-literals : length (literals ts) ≤ 128
+  few-literals = rw literals-are (accepted-shaped m s F T q re pr .literals-most)
+
   module _ (b e : List ℕ) (c : ℕ) (names : table-of s b e c ≡ q .names) where
     -- the tree from cleared words
     tree-is : (p' : List ℕ) (n : Next) → Short s → TreeEmitted s b e c (cleared 16384) p' n → emitting p' (numbers n) ≡ emit-tree q
     unfolding emit-tree
     tree-is p' n short t =
-        t .says ts ss (fits .list-is) (fits .tree-is) short (names ∙ sym names-are) (fits .nesting) size
+        t .says ts ss (fits .list-is) (fits .tree-is) short (names ∙ sym names-are) (fits .nesting) (fits .in-place) size
         ∙ ap (λ (x : Slots Path). emit-slots x (emitting (cleared 16384) zeros)) slots-are
 
     count-is : c ≡ length (q .names)
     count-is = sym (table-length s b e c) ∙ ap length names
 
-module _ (s b e : List ℕ) (c F T : ℕ) (p l : List ℕ) (short : Short s) (p₁ : List ℕ) (n : Next) (t : TreeWritten s b e c p p₁ n) (p₂ l' : List ℕ) (k : ℕ) (a : AllWritten s p₁ l p₂ l' k)
+module _ (s b e : List ℕ) (c F T : ℕ) (p l : List ℕ) (short : Short s) (p₁ : List ℕ) (n : Next) (t : TreeWritten s b e c p p₁ n) (p₂ l' : List ℕ) (a : AllWritten s p₁ l p₂ l') (places : List ℕ) (k : ℕ) (placed : Placed s places k)
     (p' : List ℕ) (h : HeaderWritten s b e c k n F T p₂ p') where
   module _ (m : Lengths) (q : Program) (re : refusal m s F T ≡ 0) (pr : program s ≡ some q) where
     abbrev f : SourceFits s F q
     f = fits m s F T q re pr
 
-    -- the lengths and bytes of the literals, and how many there are
-    literals-written : both p₂ l' k ≡ both (write-literal-lengths (q .literals) 0 p₁) (write-literals (q .literals) 0 l) (length (q .literals))
-    literals-written =
-        a .is (f .list) (f .list-is)
-        ∙ ap (λ (ws : List (List ℕ)). both (write-literal-lengths ws 0 p₁) (write-literals ws 0 l) (length ws)) (literals-are m s F T q re pr)
+    lengths-written : p₂ ≡ write-literal-lengths (q .literals) 0 p₁
+    lengths-written =
+        a .words-are (f .list) (f .list-is) (few-literals m s F T q re pr)
+        ∙ ap (λ (ws : List (List ℕ)). write-literal-lengths ws 0 p₁) (literals-are m s F T q re pr)
+
+    literals-count : k ≡ length (q .literals)
+    literals-count = placed .count (f .list) (f .list-is) ∙ ap length (literals-are m s F T q re pr)
 
     bytes-written : l ≡ cleared 8192 → l' ≡ literal-bytes q
     unfolding literal-bytes
-    bytes-written blank = ap (λ (x : Both). x .bytes) literals-written ∙ ap (write-literals (q .literals) 0) blank
+    bytes-written blank =
+        a .bytes-are (f .list) (f .list-is) (few-literals m s F T q re pr)
+        ∙ (λ i. write-literals (literals-are m s F T q re pr i) 0 (blank i))
 
     words-written : table-of s b e c ≡ q .names → p ≡ cleared 16384 → p' ≡ program-words q F T
     words-written names blank = h .is ∙ ap (write-start (table-of s b e c)) body-is ∙ ap (λ (x : List (List ℕ)). write-start x (body m s F T q re pr)) names ∙ start-written m s F T q re pr
@@ -138,7 +146,7 @@ module _ (s b e : List ℕ) (c F T : ℕ) (p l : List ℕ) (short : Short s) (p�
 
         words-are : p₂ ≡ write-literal-lengths (q .literals) 0 (write-names (q .names) 0 (emit-tree q .words))
         words-are =
-            ap (λ (x : Both). x .words) literals-written
+            lengths-written
             ∙ ap (write-literal-lengths (q .literals) 0) (t .is ∙ (λ i. write-names (names i) 0 (tree i .words)))
 
         slots-place : h .slots ≡ first-slot-place (q .slots) 0
@@ -147,7 +155,7 @@ module _ (s b e : List ℕ) (c F T : ℕ) (p l : List ℕ) (short : Short s) (p�
 
         body-is : write-counts (write-limits p₂ F T c k) (numbers n) (h .slots) ≡ body m s F T q re pr
         body-is =
-            λ i. write-counts (write-limits (words-are i) F T (count-is m s F T q re pr b e c names i) (ap (λ (x : Both). x .count) literals-written i)) (tree i .next) (slots-place i)
+            λ i. write-counts (write-limits (words-are i) F T (count-is m s F T q re pr b e c names i) (literals-count i)) (tree i .next) (slots-place i)
 
   pub tables-done : TablesWritten s b e c F T p l p' l'
   tables-done = record { words = words-written; bytes = bytes-written }

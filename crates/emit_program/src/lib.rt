@@ -1,7 +1,8 @@
 // Program words and literal bytes of a source that load accepts.
 use emit_steps::Next;
 ghost use mathlib.Core.Path.{_≡_};
-ghost use Rattle.names.specs.Kept.{table-of, Kept};
+ghost use Rattle.names.specs.Kept.{table-of, Kept, Leads};
+ghost use Rattle.strings.specs.Places.{Placed};
 ghost use Rattle.token_cache.specs.Cache.{Cached};
 ghost use Rattle.emit_names.specs.Table.{Ready};
 ghost use Rattle.sweep.specs.Decides.{Short};
@@ -33,8 +34,8 @@ fn write_counts(p: &mut [u32], n: Next, z: u32)
 fn write_start(s: &[u8], begins: &[usize], ends: &[usize], count: u32, p: &mut [u32])
     ensures { λ _. ⌜ now (p .exit) ≡ write-start (table-of (now (s .entry)) (now (begins .entry)) (now (ends .entry)) count) (now (p .entry)) ⌝ }
 {
-    let main = emit_names::number_of(s, begins, ends, count, b"Main");
-    let start = emit_names::number_of(s, begins, ends, count, b"start");
+    let main = names::number_of(s, begins, ends, count, b"Main");
+    let start = names::number_of(s, begins, ends, count, b"start");
     let k = start_code::start_code(p, main, start);
     table_updates::set_start(p, k);
 }
@@ -79,7 +80,7 @@ fn write_tree(
     n
 }
 
-// Both memories, where the names are kept.
+// Both memories, where the names and the places of the strings are kept.
 fn write_tables(
     c: &[u64; 16384],
     s: &[u8],
@@ -87,20 +88,23 @@ fn write_tables(
     ends: &[usize],
     hints: &[u8; 4096],
     count: u32,
+    places: &[usize],
+    strings: u32,
     f: u32,
     t: u32,
     p: &mut [u32],
     l: &mut [u8],
 )
     requires { ⌜ Ready (now c) (now s) (now begins) (now ends) count × Short (now s) ⌝ }
+    requires placed { ⌜ Placed (now s) (now places) strings ⌝ }
     ensures { λ _. ⌜ TablesWritten (now (s .entry)) (now (begins .entry)) (now (ends .entry)) count f t (now (p .entry)) (now (l .entry)) (now (p .exit)) (now (l .exit)) ⌝ }
 {
     let n = write_tree(c, s, begins, ends, hints, count, p);
-    let literals = emit_literals::write_literals(c, s, p, l);
-    write_header(c, s, begins, ends, count, literals, n, f, t, p);
+    emit_literals::write_literals(c, s, places, strings, p, l);
+    write_header(c, s, begins, ends, count, strings, n, f, t, p);
 }
 
-// Both memories become those of the program of the source, with its limits; its names are kept.
+// Both memories become those of the program of the source, with its limits; its names and the places of its strings are kept.
 pub fn emit(
     c: &[u64; 16384],
     s: &[u8],
@@ -108,6 +112,8 @@ pub fn emit(
     ends: &[usize],
     hints: &[u8; 4096],
     count: u32,
+    places: &[usize],
+    strings: u32,
     f: u32,
     t: u32,
     p: &mut [u32],
@@ -115,10 +121,25 @@ pub fn emit(
 )
     requires cached { ⌜ Cached (now c) (now s) ⌝ }
     requires kept { ⌜ Kept (now s) (now begins) (now ends) count ⌝ }
+    requires led { ⌜ Leads (now c) (now s) (now begins) (now ends) count ⌝ }
+    requires placed { ⌜ Placed (now s) (now places) strings ⌝ }
     requires can { ⌜ CanEmit (now s) (now p) (now l) ⌝ }
     ensures { λ _. ⌜ Emitted (now (s .entry)) f t (now (p .exit)) (now (l .exit)) ⌝ }
 {
     clearing::clear_words(p);
     clearing::clear_bytes(l);
-    write_tables(c, s, begins, ends, hints, count, f, t, p, l);
+    write_tables(
+        c,
+        s,
+        begins,
+        ends,
+        hints,
+        count,
+        places,
+        strings,
+        f,
+        t,
+        p,
+        l,
+    );
 }

@@ -22,7 +22,7 @@ use Rattle.token.proofs.Unique.{token-inj}
 use Rattle.token.proofs.Answers.{spot-of}
 use Rattle.emit_steps.specs.declared.Next.{Next}
 use Rattle.emit_steps.specs.declared.Place.{Place}
-use Rattle.emit_steps.specs.Steps.{one-more, take-expression, take-instruction, take-path-name, take-string, take-code, inner-slot, first-kind, Past, Pass, PassTwo, PassFrame}
+use Rattle.emit_steps.specs.Steps.{one-more, take-expression, take-instruction, take-string, take-code, inner-slot, first-kind, Past, Pass, PassTwo, PassFrame}
 
 -- ---- Numbers and places
 
@@ -169,9 +169,6 @@ module _ (q : Place) (n : ℕ) where
 module _ (n : Next) (at x : ℕ) where
   pub expression-taken : x ≡ one-more (n .expressions) → _≡_ {A = Next} (record { at = at; expressions = x; instructions = n .instructions; paths = n .paths; strings = n .strings; codes = n .codes }) (take-expression n at)
   expression-taken e = rw e
-
-  pub path-name-taken : x ≡ one-more (n .paths) → _≡_ {A = Next} (record { at = at; expressions = n .expressions; instructions = n .instructions; paths = x; strings = n .strings; codes = n .codes }) (take-path-name n at)
-  path-name-taken e = rw e
 
   pub string-taken : x ≡ one-more (n .strings) → _≡_ {A = Next} (record { at = at; expressions = n .expressions; instructions = n .instructions; paths = n .paths; strings = x; codes = n .codes }) (take-string n at)
   string-taken e = rw e

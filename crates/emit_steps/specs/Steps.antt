@@ -35,10 +35,6 @@ abbrev pub take-instruction : Next → Next
 take-instruction n =
     record { at = n .at; expressions = n .expressions; instructions = one-more (n .instructions); paths = n .paths; strings = n .strings; codes = n .codes }
 
-abbrev pub take-path-name : Next → ℕ → Next
-take-path-name n at =
-    record { at = at; expressions = n .expressions; instructions = n .instructions; paths = one-more (n .paths); strings = n .strings; codes = n .codes }
-
 abbrev pub take-string : Next → ℕ → Next
 take-string n at =
     record { at = at; expressions = n .expressions; instructions = n .instructions; paths = n .paths; strings = one-more (n .strings); codes = n .codes }

@@ -1,7 +1,7 @@
 // What the functions that emit a tree share: where emission stands, where a part is written, and steps over tokens.
 ghost use mathlib.Core.Path.{_≡_};
 ghost use Prim.Native.Nat.{_-_};
-ghost use Rattle.emit_steps.specs.Steps.{one-more, go-to, take-expression, take-instruction, take-path-name, take-string, take-code, inner-slot, inner-code};
+ghost use Rattle.emit_steps.specs.Steps.{one-more, go-to, take-expression, take-instruction, take-string, take-code, inner-slot, inner-code};
 ghost use Rattle.emit_steps.specs.Steps.{Pass, PassTwo, PassFrame};
 ghost use Rattle.token_cache.specs.Cache.{Cached};
 use token::TokenRead;
@@ -84,20 +84,6 @@ pub fn one_instruction(n: Next) -> Next
         expressions: n.expressions,
         instructions: i,
         paths: n.paths,
-        strings: n.strings,
-        codes: n.codes,
-    }
-}
-
-pub fn one_path_name(n: Next, at: usize) -> Next
-    ensures { λ r. ⌜ r ≡ take-path-name n at ⌝ }
-{
-    let j = one_more(n.paths);
-    Next {
-        at: at,
-        expressions: n.expressions,
-        instructions: n.instructions,
-        paths: j,
         strings: n.strings,
         codes: n.codes,
     }

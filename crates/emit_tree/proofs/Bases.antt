@@ -31,7 +31,7 @@ use Rattle.emit_bases.specs.Bases.{path-base}
 use Rattle.emit_leaves.specs.Parts.{EmitsAny, IntegerHere, StringHere, OperatorHere, integer-emitted, string-emitted, operator-emitted, is-operator, OperatorAfter, Skipped, BlockOpened, FrameOpened}
 use Rattle.emit_leaves.proofs.Numbers.{base-before, expression-before, expression-next, one-expression-small}
 use Rattle.emit_leaves.proofs.Ahead.{kind-here, ahead-same, skip-fixed, skipped-ahead, path-kind}
-use Rattle.emit_tree.specs.Members.{base-emitted, operand-emitted, expression-emitted, right-emitted, slots-emitted, code-emitted, BaseHere, BlockHere, Ends, FrameRoom, ExpressionHere, NegationHere, BinaryHere, FrameHere, SlotsHere, CodeHere}
+use Rattle.emit_tree.specs.Members.{base-emitted, operand-emitted, expression-emitted, right-emitted, slots-emitted, code-emitted, BaseHere, BlockHere, NoOperation, Ends, FrameFits, ExpressionHere, NegationHere, BinaryHere, FrameHere, SlotsHere, CodeHere}
 use Rattle.emit_tree.proofs.Places.{code-place, code-inside, not-base}
 
 -- ---- The measure falls: by the position, or by the rank of the member
@@ -276,17 +276,17 @@ module _ (s : List ℕ) (table : List (List ℕ)) (inner : Place) (x : ℕ) (n :
       back a = omega arith
 
       go : (us vs : List Symbol) (e : Expression Written) → Ahead s table n us → FrameHere inner us e vs → ⊥
-      go _ vs _ h (FrameHere.frame {ss = ss} {ts = ts} room d) = back (o .says table ts _ ss (place-of inner) h d refl .further)
+      go _ vs _ h (FrameHere.frame {ss = ss} {ts = ts} fits d) = back (o .says table ts _ ss (place-of inner) h d refl .further)
 
   module _ (p' : List ℕ) (u : Next) (f : Emits (SlotsHere inner) (slots-emitted inner) s table m p₁ p' u) (r : Next) (z : Skipped s u 13 r) where
     frame-says : (us vs : List Symbol) (e : Expression Written) → Ahead s table n us → FrameHere inner us e vs → Small (expression-emitted inner inner x e (emitting p (numbers n)) .next) →
         Emitted s table (expression-emitted inner inner x e (emitting p (numbers n))) p' r vs
     unfolding expression-emitted slots-emitted resolve-expression front-kind kind-of fixed-kind
-    frame-says _ vs _ h (FrameHere.frame {ss = ss} {ts = ts} room d) a =
+    frame-says _ vs _ h (FrameHere.frame {ss = ss} {ts = ts} fits d) a =
         let b = o .says table ts _ ss (place-of inner) h d refl in
         rw (b .whole)
         (closed s table u r Fixed.close-square z _ p' vs
-        (f .says ts _ ss (b .ahead) (record { slots = d; ends = refl; room = room }) (rw (b .whole) at a)))
+        (f .says ts _ ss (b .ahead) (record { slots = d; ends = refl; fits = fits }) (rw (b .whole) at a)))
 
     pub frame-done : Emits (FrameHere inner) (expression-emitted inner inner x) s table n p p' r
     frame-done = record { says = frame-says; on = omega (arith, o .on, f .on, z .pass .on) }
@@ -316,11 +316,12 @@ ends-none vs h e = go (leb 16 (front-kind vs)) (leb (front-kind vs) 24) refl ref
 
 module _ (s : List ℕ) (table : List (List ℕ)) (place inner : Place) (x : ℕ) (n : Next) (p : List ℕ) (k : ℕ) (h : KindAt s (n .at) k) (p' : List ℕ) (r : Next) where
   abbrev Told : List Symbol → List Symbol → Expression Written → Type 0
-  Told us vs e = Ahead s table n us → Ends vs → PlaceOk place → FrameRoom inner e → front-kind us ≡ k → Small (expression-emitted place inner x e (emitting p (numbers n)) .next) →
+  Told us vs e = Ahead s table n us → Ends vs → PlaceOk place → (place .in_code ≡ false → NoOperation e) → FrameFits inner e → front-kind us ≡ k →
+      Small (expression-emitted place inner x e (emitting p (numbers n)) .next) →
       Emitted s table (expression-emitted place inner x e (emitting p (numbers n))) p' r vs
 
   by-first : ((us vs : List Symbol) (e : Expression Written) → Expression⊢ us e vs → Told us vs e) → n .at ≤ r .at → Emits (ExpressionHere place inner) (expression-emitted place inner x) s table n p p' r
-  by-first f l = record { says = λ us vs e a g c. f us vs e (g .expression) a (g .ends) (g .ok) (g .within) (kind-here s table n us k h a) c; on = l }
+  by-first f l = record { says = λ us vs e a g c. f us vs e (g .expression) a (g .ends) (g .ok) (g .plain) (g .within) (kind-here s table n us k h a) c; on = l }
 
   pub expression-frame : k ≡ 0 → Emits (FrameHere inner) (expression-emitted inner inner x) s table n p p' r → Emits (ExpressionHere place inner) (expression-emitted place inner x) s table n p p' r
   unfolding front-kind kind-of fixed-kind expression-emitted resolve-expression
@@ -330,10 +331,10 @@ module _ (s : List ℕ) (table : List (List ℕ)) (place inner : Place) (x : ℕ
       nine q = omega arith
 
       go : (us vs : List Symbol) (e : Expression Written) → Expression⊢ us e vs → Told us vs e
-      go us vs _ (Expression⊢.base d) a b ok w g c = absurd (not-base 0 refl us _ _ d (g ∙ e))
-      go us vs _ (Expression⊢.not d) a b ok w g c = absurd (nine (g ∙ e))
-      go us vs _ (Expression⊢.operation d i) a b ok w g c = absurd (not-base 0 refl us _ _ d (g ∙ e))
-      go us vs e (Expression⊢.frame (Frame⊢.brackets {ss = ss} d)) a b ok w g c = f .says us vs e a (FrameHere.frame (w .room ss refl) d) c
+      go us vs _ (Expression⊢.base d) a b ok z w g c = absurd (not-base 0 refl us _ _ d (g ∙ e))
+      go us vs _ (Expression⊢.not d) a b ok z w g c = absurd (nine (g ∙ e))
+      go us vs _ (Expression⊢.operation d i) a b ok z w g c = absurd (not-base 0 refl us _ _ d (g ∙ e))
+      go us vs e (Expression⊢.frame (Frame⊢.brackets {ss = ss} d)) a b ok z w g c = f .says us vs e a (FrameHere.frame (w .slots ss refl) d) c
 
   pub expression-not : k ≡ 9 → Emits (NegationHere place) (expression-emitted place place x) s table n p p' r → Emits (ExpressionHere place inner) (expression-emitted place inner x) s table n p p' r
   unfolding front-kind kind-of fixed-kind expression-emitted resolve-expression
@@ -343,35 +344,47 @@ module _ (s : List ℕ) (table : List (List ℕ)) (place inner : Place) (x : ℕ
       zero q = omega arith
 
       go : (us vs : List Symbol) (e : Expression Written) → Expression⊢ us e vs → Told us vs e
-      go us vs _ (Expression⊢.base d) a b ok w g c = absurd (not-base 9 refl us _ _ d (g ∙ e))
-      go us vs e (Expression⊢.not d) a b ok w g c = f .says us vs e a (NegationHere.negation (record { base = d; no-dot = b .no-dot; ok = ok })) c
-      go us vs _ (Expression⊢.operation d i) a b ok w g c = absurd (not-base 9 refl us _ _ d (g ∙ e))
-      go us vs _ (Expression⊢.frame (Frame⊢.brackets d)) a b ok w g c = absurd (zero (g ∙ e))
+      go us vs _ (Expression⊢.base d) a b ok z w g c = absurd (not-base 9 refl us _ _ d (g ∙ e))
+      go us vs e (Expression⊢.not d) a b ok z w g c = f .says us vs e a (NegationHere.negation (record { base = d; no-dot = b .no-dot; ok = ok })) c
+      go us vs _ (Expression⊢.operation d i) a b ok z w g c = absurd (not-base 9 refl us _ _ d (g ∙ e))
+      go us vs _ (Expression⊢.frame (Frame⊢.brackets d)) a b ok z w g c = absurd (zero (g ∙ e))
 
-  module _ (nz : k ≡ 0 → ⊥) (nn : k ≡ 9 → ⊥) (t : Bool) (o : OperatorAfter s (n .at) t) where
-    after : (us vs : List Symbol) (b : Base Written) → Ahead s table n us → Base⊢ us b vs → (front-kind vs ≡ 7 → ⊥) → t ≡ is-operator (front-kind vs)
-    after us vs b a d nd = o .is table (n .strings) (n .codes) (a .tokens) b vs (a .reads) (rw (a .are) at d) nd
-
-    pub expression-binary : t ≡ true → Emits (BinaryHere place) (expression-emitted place place x) s table n p p' r → Emits (ExpressionHere place inner) (expression-emitted place inner x) s table n p p' r
-    unfolding front-kind kind-of fixed-kind expression-emitted resolve-expression
-    expression-binary e f = by-first go (f .on)
-      where
-        go : (us vs : List Symbol) (e : Expression Written) → Expression⊢ us e vs → Told us vs e
-        go us vs _ (Expression⊢.base d) a b ok w g c = absurd (ends-none vs b (sym e ∙ after us vs _ a d (b .no-dot)))
-        go us vs _ (Expression⊢.not d) a b ok w g c = absurd (nn (sym g))
-        go us vs e (Expression⊢.operation {o = j} d i) a b ok w g c =
-            f .says us vs e a (BinaryHere.binary (record { base = d; no-dot = not-dot j; ok = ok }) (record { base = i; no-dot = b .no-dot; ok = ok })) c
-        go us vs _ (Expression⊢.frame (Frame⊢.brackets d)) a b ok w g c = absurd (nz (sym g))
-
-    pub expression-base : t ≡ false → Emits (BaseHere place) (base-emitted place x) s table n p p' r → Emits (ExpressionHere place inner) (expression-emitted place inner x) s table n p p' r
+  module _ (nz : k ≡ 0 → ⊥) (nn : k ≡ 9 → ⊥) where
+    -- a base, where no operation is here
+    base-only : ((us vs : List Symbol) (o : Operator) (u v : Base Written) → Ahead s table n us → Base⊢ us u (Symbol.fixed (Fixed.operator o) ∷ vs) →
+        (place .in_code ≡ false → NoOperation (Expression.operation o u v)) → ⊥) →
+        Emits (BaseHere place) (base-emitted place x) s table n p p' r → Emits (ExpressionHere place inner) (expression-emitted place inner x) s table n p p' r
     unfolding front-kind kind-of fixed-kind expression-emitted base-emitted resolve-expression emit-expression
-    expression-base e f = by-first go (f .on)
+    base-only none f = by-first go (f .on)
       where
         go : (us vs : List Symbol) (e : Expression Written) → Expression⊢ us e vs → Told us vs e
-        go us vs _ (Expression⊢.base {b = j} d) a b ok w g c = f .says us vs j a (record { base = d; no-dot = b .no-dot; ok = ok }) c
-        go us vs _ (Expression⊢.not d) a b ok w g c = absurd (nn (sym g))
-        go us vs _ (Expression⊢.operation {o = j} d i) a b ok w g c = absurd (false≢true (sym e ∙ after us _ _ a d (not-dot j) ∙ operator-is j))
-        go us vs _ (Expression⊢.frame (Frame⊢.brackets d)) a b ok w g c = absurd (nz (sym g))
+        go us vs _ (Expression⊢.base {b = j} d) a b ok z w g c = f .says us vs j a (record { base = d; no-dot = b .no-dot; ok = ok }) c
+        go us vs _ (Expression⊢.not d) a b ok z w g c = absurd (nn (sym g))
+        go us vs _ (Expression⊢.operation d i) a b ok z w g c = absurd (none us _ _ _ _ a d z)
+        go us vs _ (Expression⊢.frame (Frame⊢.brackets d)) a b ok z w g c = absurd (nz (sym g))
+
+    pub expression-outside : place .in_code ≡ false → Emits (BaseHere place) (base-emitted place x) s table n p p' r → Emits (ExpressionHere place inner) (expression-emitted place inner x) s table n p p' r
+    unfolding NoOperation
+    expression-outside out f = base-only (λ us vs o u v a d z. z out) f
+
+    module _ (t : Bool) (o : OperatorAfter s (n .at) t) where
+      after : (us vs : List Symbol) (b : Base Written) → Ahead s table n us → Base⊢ us b vs → (front-kind vs ≡ 7 → ⊥) → t ≡ is-operator (front-kind vs)
+      after us vs b a d nd = o .is table (n .strings) (n .codes) (a .tokens) b vs (a .reads) (rw (a .are) at d) nd
+
+      pub expression-binary : t ≡ true → Emits (BinaryHere place) (expression-emitted place place x) s table n p p' r → Emits (ExpressionHere place inner) (expression-emitted place inner x) s table n p p' r
+      unfolding front-kind kind-of fixed-kind expression-emitted resolve-expression
+      expression-binary e f = by-first go (f .on)
+        where
+          go : (us vs : List Symbol) (e : Expression Written) → Expression⊢ us e vs → Told us vs e
+          go us vs _ (Expression⊢.base d) a b ok z w g c = absurd (ends-none vs b (sym e ∙ after us vs _ a d (b .no-dot)))
+          go us vs _ (Expression⊢.not d) a b ok z w g c = absurd (nn (sym g))
+          go us vs e (Expression⊢.operation {o = j} d i) a b ok z w g c =
+              f .says us vs e a (BinaryHere.binary (record { base = d; no-dot = not-dot j; ok = ok }) (record { base = i; no-dot = b .no-dot; ok = ok })) c
+          go us vs _ (Expression⊢.frame (Frame⊢.brackets d)) a b ok z w g c = absurd (nz (sym g))
+
+      pub expression-base : t ≡ false → Emits (BaseHere place) (base-emitted place x) s table n p p' r → Emits (ExpressionHere place inner) (expression-emitted place inner x) s table n p p' r
+      unfolding front-kind kind-of fixed-kind
+      expression-base e f = base-only (λ us vs j u v a d z. false≢true (sym e ∙ after us _ u a d (not-dot j) ∙ operator-is j)) f
 
 -- ---- An expression as the next expression
 

@@ -2,4 +2,5 @@ pub mod Places
 pub mod Bases
 pub mod Lists
 pub mod Nesting
+pub mod Operations
 pub mod Whole

@@ -32,9 +32,9 @@ use Rattle.emit_leaves.specs.declared.Stand.{Stand}
 use Rattle.emit_leaves.specs.Parts.{TargetHere, target-emitted, Stands, SlotNamed, SlotClosed, LineClosed}
 use Rattle.emit_leaves.proofs.Numbers.{expression-before, slots-before, instruction-before, code-before, instruction-next, one-expression-small}
 use Rattle.emit_leaves.proofs.Ahead.{kind-here, ahead-same, instruction-kind}
-use Rattle.emit_tree.specs.Members.{operand-emitted, right-emitted, slots-emitted, instruction-emitted, code-emitted, slot-emitted, line-emitted, expression-deep, slots-deep, Room, Inside}
-use Rattle.emit_tree.specs.Members.{BaseHere, Ends, FrameRoom, ExpressionHere, SlotsHere, SlotDone, SlotEmits, InstructionHere, ShowHere, JumpHere, IfeqHere, AssignHere, CodeHere, LineDone, LineEmits}
-use Rattle.emit_tree.proofs.Places.{inside-room, inner-same, inner-room, slot-rooms, not-base}
+use Rattle.emit_tree.specs.Members.{operand-emitted, right-emitted, slots-emitted, instruction-emitted, code-emitted, slot-emitted, line-emitted, ExpressionFits, SlotsFit, Inside}
+use Rattle.emit_tree.specs.Members.{BaseHere, Ends, FrameFits, ExpressionHere, SlotsHere, SlotDone, SlotEmits, InstructionHere, ShowHere, JumpHere, IfeqHere, AssignHere, CodeHere, LineDone, LineEmits}
+use Rattle.emit_tree.proofs.Places.{not-outside, inside-fits, inner-same, inner-fits, slot-fits, not-base}
 use Rattle.emit_tree.proofs.Bases.{operand-before, carry, after-seen, same-start, seen-on}
 
 -- ---- What stands at a position
@@ -74,9 +74,9 @@ module _ (s b e : List ℕ) (count : ℕ) (place : Place) (n : Next) (q : ℕ) (
   value j x = emit-expression (resolve-expression (place-of place) (within-slot j (place-of place)) x) (n .expressions) (emitting (set-slot-name p (n .expressions) j) (one-expression (numbers n)))
 
   valued : PassTwo s (n .at) 25 6 q → (ts vs : List Symbol) (j : ℕ) (x : Expression Written) → Ahead s (table-of s b e count) n (Symbol.name j ∷ Symbol.fixed Fixed.assign ∷ ts) →
-      Expression⊢ ts x vs → Ends vs → Room place (expression-deep x) → Small (value j x .next) → Emitted s (table-of s b e count) (value j x) p₂ u vs
+      Expression⊢ ts x vs → Ends vs → ExpressionFits place x → Small (value j x .next) → Emitted s (table-of s b e count) (value j x) p₂ u vs
   unfolding right-emitted token-kind fixed-kind value
-  valued y ts vs j x h d en room l =
+  valued y ts vs j x h d en fits l =
       let table = table-of s b e count in
       let a = name-first table (n .strings) (n .codes) (h .tokens) j _ (h .are) in
       let g = fixed-first table (n .strings) (n .codes) (a .1) Fixed.assign ts (a .4) in
@@ -84,12 +84,12 @@ module _ (s b e : List ℕ) (count : ℕ) (place : Place) (n : Next) (q : ℕ) (
       let ek : k ≡ j = number-ahead s b e count n j k _ (z .number) h in
       let start : emitting (set-slot-name p (n .expressions) j) (numbers n) ≡ emitting p₁ (numbers m) =
       ap (λ (i : ℕ). emitting (set-slot-name p (n .expressions) i) (numbers n)) (sym ek) ∙ ap (λ (w : List ℕ). emitting w (numbers n)) (sym (z .words)) ∙ ap (λ (t : Next). emitting p₁ (numbers t)) (sym em) in
-      let same : resolve-expression (place-of place) (place-of inner) x ≡ resolve-expression (place-of place) (within-slot j (place-of place)) x = rw (ei, ek) (inner-same place j x room) in
-      let inside : FrameRoom inner x = rw (ei, ek) (inner-room place j x room) in
+      let same : resolve-expression (place-of place) (place-of inner) x ≡ resolve-expression (place-of place) (within-slot j (place-of place)) x = rw (ei, ek) (inner-same place j x (fits .room)) in
+      let inside : FrameFits inner x = rw (ei, ek) (inner-fits place j x fits) in
       let b : Ahead s table m ts = rw em (record { tokens = g .0; reads = w .reads; are = g .2; few = fewer (g .0) (rw (a .2, g .1) at (h .few)) }) in
       rw (← same)
       (carry s table (right-emitted place inner x) (emitting (set-slot-name p (n .expressions) j) (numbers n)) (emitting p₁ (numbers m)) start p₂ u vs
-      (f .says ts vs x b (record { expression = d; ends = en; ok = room .ok; within = inside })) (rw same l))
+      (f .says ts vs x b (record { expression = d; ends = en; ok = fits .room .ok; plain = fits .plain; within = inside })) (rw same l))
     where
       fewer : (ts : List Token) → n .strings + suc (suc (length ts)) < 4294967295 → n .strings + length ts < 4294967295
       fewer ts l = omega arith
@@ -101,16 +101,16 @@ module _ (s b e : List ℕ) (count : ℕ) (place : Place) (n : Next) (q : ℕ) (
   slot-says : PassTwo s (n .at) 25 6 q → (us vs : List Symbol) (j : ℕ) (x : Expression Written) (ss : Slots Written) → Ahead s (table-of s b e count) n us → SlotsHere place us (Slots.slot j x ss) vs →
       Small (slot-emitted place j x ss (emitting p (numbers n)) .next) → SlotDone place s (table-of s b e count) j x ss n p vs p' (stop .next)
   unfolding slot-emitted value front-kind kind-of fixed-kind resolve-slots linked-to
-  slot-says y us vs j x ss h g l = go us j x ss h (g .slots) (slot-rooms place j x ss (g .room)) l
+  slot-says y us vs j x ss h g l = go us j x ss h (g .slots) (slot-fits place j x ss (g .fits)) l
     where
       go : (us : List Symbol) (j : ℕ) (x : Expression Written) (ss : Slots Written) → Ahead s (table-of s b e count) n us → Slots⊢ us (Slots.slot j x ss) vs →
-          Room place (expression-deep x) × Room place (slots-deep ss) → Small (slot-emitted place j x ss (emitting p (numbers n)) .next) → SlotDone place s (table-of s b e count) j x ss n p vs p' (stop .next)
-      go _ j x _ h (Slots⊢.last-slot {ts = ts} d) rooms l =
-          let v = valued y ts vs j x h d (ends-at vs 13 (g .ends) (λ a. absurd (omega arith)) (omega arith)) (rooms .0) l in
+          ExpressionFits place x × SlotsFit place ss → Small (slot-emitted place j x ss (emitting p (numbers n)) .next) → SlotDone place s (table-of s b e count) j x ss n p vs p' (stop .next)
+      go _ j x _ h (Slots⊢.last-slot {ts = ts} d) fits l =
+          let v = valued y ts vs j x h d (ends-at vs 13 (g .ends) (λ a. absurd (omega arith)) (omega arith)) (fits .0) l in
           let w = c .done .last (table-of s b e count) vs (v .ahead) (g .ends) in
           record { emitted = w .linked ∙ ap (linked-to Slots.no-slots) (v .is); rest = vs; ahead = w .ahead; more = Slots⊢.no-slots }
-      go _ j x ss h (Slots⊢.more-slots {ts = ts} {us = us} d i) rooms l =
-          let v = valued y ts _ j x h d (ends-at _ 11 refl (λ a. absurd (omega arith)) (omega arith)) (rooms .0) l in
+      go _ j x ss h (Slots⊢.more-slots {ts = ts} {us = us} d i) fits l =
+          let v = valued y ts _ j x h d (ends-at _ 11 refl (λ a. absurd (omega arith)) (omega arith)) (fits .0) l in
           let w = c .done .more (table-of s b e count) us vs ss (place-of place) (v .ahead) i (g .ends) in
           record { emitted = w .linked ∙ ap (linked-to (resolve-slots (place-of place) ss)) (v .is); rest = us; ahead = w .ahead; more = i }
 
@@ -175,7 +175,7 @@ module _ (s : List ℕ) (table : List (List ℕ)) (place : Place) (n₀ : Next) 
             go us vs (Slots.slot j e ss) h w a =
                 let d = f .says (seen-two s (n .at) t (i .seen) 25 name 6 q y l) us vs j e ss h w (slots-before (resolve-slots (place-of place) ss) (slot-emitted place j e ss (emitting p (numbers n))) a) in
                 carry s table (slots-emitted place ss) (slot-emitted place j e ss (emitting p (numbers n))) (emitting p₁ (numbers m)) (sym (d .emitted)) p' r vs
-                (g .says (d .rest) vs ss (d .ahead) (record { slots = d .more; ends = w .ends; room = slot-rooms place j e ss (w .room) .1 })) a
+                (g .says (d .rest) vs ss (d .ahead) (record { slots = d .more; ends = w .ends; fits = slot-fits place j e ss (w .fits) .1 })) a
 
         pub slots-again : length p₁ ≡ length p → (t' : Seen) → Sees s (m .at) t' → Going (SlotsHere place) (slots-emitted place) s table n₀ p₀ m p₁ t'
         slots-again e t' x = record { seen = x; on = omega (arith, i .on, i .seen .on, f .on); size = e ∙ i .size; back = λ p' r g. i .back p' r (on-slots p' r g) }
@@ -367,7 +367,7 @@ module _ (s : List ℕ) (table : List (List ℕ)) (place : Place) (i : ℕ) (n :
       go us vs o (Instruction⊢.assign d x) a b w g c =
           f .says us vs o a
           (AssignHere.assign d
-          (record { expression = x; ends = ends-at vs 10 b (λ q. absurd (omega arith)) (omega arith); ok = w .ok; within = record { room = λ ss q. inside-room place (slots-deep ss) w } })) c
+          (record { expression = x; ends = ends-at vs 10 b (λ q. absurd (omega arith)) (omega arith); ok = w .ok; plain = λ q. absurd (not-outside place w q); within = record { slots = λ ss q. inside-fits place ss w } })) c
       go _ vs _ (Instruction⊢.show d) a b w g c = absurd (n₂ (sym g))
       go _ vs _ (Instruction⊢.jump d x) a b w g c = absurd (n₃ (sym g))
       go _ vs _ (Instruction⊢.ifeq d x y) a b w g c = absurd (n₄ (sym g))

@@ -5,8 +5,8 @@ use mathlib.Core.List.{List}
 use Prim.Native.Nat.{ℕ, suc, max, _+_, _<_, _≤_}
 use native.Mathlib.Omega.{arith}
 use native.Mathlib.Numerals.{add-one}
-use lib.Dec.{eqb, leb}
-use lib.ListN.{take, length-set}
+use lib.Dec.{eqb, leb, ltb}
+use lib.ListN.{take, set, length-set}
 use lib.Seq.{take-suc-set}
 use borrow.Author.Tests.{lt-ltb}
 use Rattle.framed.specs.Common.{if_then_else_}
@@ -20,7 +20,7 @@ use Rattle.sweep.specs.Kinds.{kind-of, front-kind}
 use Rattle.emit_steps.specs.Steps.{place-of, inner-slot, inner-code}
 use Rattle.emit_steps.specs.declared.Place.{Place}
 use Rattle.emit_paths.specs.Emits.{PlaceOk}
-use Rattle.emit_tree.specs.Members.{expression-deep, slots-deep, Room, Inside, FrameRoom}
+use Rattle.emit_tree.specs.Members.{expression-deep, slots-deep, Room, NoOperation, ExpressionFits, SlotsFit, Inside, FrameFits}
 
 -- ---- In code
 
@@ -36,8 +36,11 @@ code-place place = go (place .in_code)
 pub code-inside : (place : Place) → PlaceOk place → Inside (inner-code place)
 code-inside place ok = record { ok = record { deep = ok .deep; sixteen = ok .sixteen }; in-code = refl }
 
-pub inside-room : (place : Place) (k : ℕ) → Inside place → Room place k
-inside-room place k h = record { ok = h .ok; deep = λ e. absurd (true≢false (sym (h .in-code) ∙ e)) }
+pub not-outside : (place : Place) → Inside place → place .in_code ≡ false → ⊥
+not-outside place h e = true≢false (sym (h .in-code) ∙ e)
+
+pub inside-fits : (place : Place) (ss : Slots Written) → Inside place → SlotsFit place ss
+inside-fits place ss h = record { room = record { ok = h .ok; deep = λ e. absurd (not-outside place h e) }; plain = λ e. absurd (not-outside place h e) }
 
 -- ---- In a slot
 
@@ -83,14 +86,30 @@ inner-same place m (Expression.not b) h = refl
 inner-same place m (Expression.operation o a b) h = refl
 inner-same place m (Expression.frame ss) h = ap (λ (q : Paths.Place). Expression.frame (resolve-slots q ss)) (slot-place place m (slots-deep ss) h)
 
-pub inner-room : (place : Place) (m : ℕ) (e : Expression Written) → Room place (expression-deep e) → FrameRoom (inner-slot place m) e
-unfolding expression-deep
-inner-room place m e h = record { room = λ ss f. slot-room place m (slots-deep ss) (rw f at h) }
+-- a slot is in code where its frame is
+slot-code : (place : Place) (m : ℕ) → inner-slot place m .in_code ≡ place .in_code
+unfolding inner-slot
+slot-code place m = go (place .in_code) (ltb (place .depth) 16) refl
+  where
+    go : (t u : Bool) → place .in_code ≡ t →
+        (if t then place else if u then record { in_code = false; depth = place .depth + 1; names = set (place .names) (place .depth) m } else place) .in_code ≡ place .in_code
+    go true u e = refl
+    go false true e = sym e
+    go false false e = refl
 
-pub slot-rooms : (place : Place) (m : ℕ) (e : Expression Written) (ss : Slots Written) → Room place (slots-deep (Slots.slot m e ss)) → Room place (expression-deep e) × Room place (slots-deep ss)
-unfolding slots-deep
-slot-rooms place m e ss h =
-    (room-less place (expression-deep e) _ (left (expression-deep e) (slots-deep ss)) h, room-less place (slots-deep ss) _ (right (expression-deep e) (slots-deep ss)) h)
+pub inner-fits : (place : Place) (m : ℕ) (e : Expression Written) → ExpressionFits place e → FrameFits (inner-slot place m) e
+unfolding expression-deep NoOperation
+inner-fits place m e h = record { slots = go }
+  where
+    go : (ss : Slots Written) → e ≡ Expression.frame ss → SlotsFit (inner-slot place m) ss
+    go ss f = record { room = slot-room place m (slots-deep ss) (rw f at h .room); plain = λ q. (rw f at h .plain) (sym (slot-code place m) ∙ q) }
+
+pub slot-fits : (place : Place) (m : ℕ) (e : Expression Written) (ss : Slots Written) → SlotsFit place (Slots.slot m e ss) → ExpressionFits place e × SlotsFit place ss
+unfolding slots-deep NoOperation
+slot-fits place m e ss h = (
+  record { room = room-less place (expression-deep e) _ (left (expression-deep e) (slots-deep ss)) (h .room); plain = λ q. h .plain q .0 },
+  record { room = room-less place (slots-deep ss) _ (right (expression-deep e) (slots-deep ss)) (h .room); plain = λ q. h .plain q .1 },
+)
   where
     left : (a b : ℕ) → a ≤ max a b
     left a b = omega arith

@@ -6,6 +6,7 @@ use mathlib.Core.Option.{some}
 use Prim.Native.Nat.{ℕ, suc, _+_, _<_, _≤_}
 use native.Mathlib.Omega.{arith}
 use lib.ListN.{length, replicate, length-replicate}
+use Rattle.framed.specs.Common.{any}
 use Rattle.framed.specs.Bytes.{class}
 use Rattle.framed.specs.Tokens.{Token, Fixed, Tokens⊢, tokens, highest-nesting}
 use Rattle.framed.specs.Symbols.{Symbol, numbered, name-table, symbols}
@@ -13,6 +14,7 @@ use Rattle.framed.specs.Tree.{Written, Slots}
 use Rattle.framed.specs.Grammar.{Frame⊢, Slots⊢}
 use Rattle.framed.specs.Parse.{parse}
 use Rattle.framed.specs.Paths.{resolve-slots, program-place}
+use Rattle.framed.specs.Meaning.{pieces, misplaced}
 use Rattle.framed.proofs.TokensExact.{tokens-agree, tokens-fewer}
 use Rattle.framed.proofs.ParseExact.{parse-sound}
 use Rattle.source.specs.Positions.{rest}
@@ -33,6 +35,7 @@ use Rattle.emit_paths.proofs.Symbols.{fixed-first}
 use Rattle.emit_tree.specs.Members.{slots-emitted, slots-deep, SlotsHere}
 use Rattle.emit_tree.specs.Tree.{TreeEmitted, FirstSlot}
 use Rattle.emit_tree.proofs.Nesting.{highest-same, frame-fits}
+use Rattle.emit_tree.proofs.Operations.{no-operation}
 
 -- after `frame` `:` `[` the slots are ahead
 record Begun (s : List ℕ) (q : ℕ) (ts : List Token) (ss : Slots Written) : Type 0 where
@@ -122,13 +125,13 @@ module _ (s b e : List ℕ) (count : ℕ) (p : List ℕ) (q : ℕ) (x : PassFram
       shallow n l = omega arith
 
       go : (ts : List Token) (ss : Slots Written) → tokens class s ≡ some ts → parse (symbols ts) ≡ some ss → Short s → table-of s b e count ≡ name-table ts → highest-nesting 0 ts ≤ 16 →
-          SizeShaped (slots-size (resolve-slots program-place ss)) → emitting p' (numbers r) ≡ emit-slots (resolve-slots program-place ss) (emitting p zeros)
-      go ts ss et ep short same nest size =
+          any misplaced (pieces ss) ≡ false → SizeShaped (slots-size (resolve-slots program-place ss)) → emitting p' (numbers r) ≡ emit-slots (resolve-slots program-place ss) (emitting p zeros)
+      go ts ss et ep short same nest clean size =
           let a = begun s q x ts ss et ep in
           let fits : 1 + slots-deep ss ≤ 16 = frame-fits 16 0 (parse-sound (symbols ts) ep) (rw (highest-same (name-table ts) 0 0 0 ts) nest) in
           let small : Small (emit-slots (resolve-slots program-place ss) (emitting p zeros) .next) =
           rw (ap (λ (t : Emitting). t .next) (Counted.slots-emitted (resolve-slots program-place ss) zeros p)) (counts-small (slots-size (resolve-slots program-place ss)) size) in
           f .says (a .us) _ ss
           (record { tokens = a .left; reads = a .reads; are = rw same (a .are); few = few (length (a .left)) (a .fewer) (short .short) })
-          (record { slots = a .slots; ends = refl; room = record { ok = record { deep = omega arith; sixteen = length-replicate {A = ℕ} 16 0 }; deep = λ h. shallow (slots-deep ss) fits } })
+          (record { slots = a .slots; ends = refl; fits = record { room = record { ok = record { deep = omega arith; sixteen = length-replicate {A = ℕ} 16 0 }; deep = λ h. shallow (slots-deep ss) fits }; plain = λ h. no-operation ss clean } })
           small .is

@@ -74,6 +74,29 @@ pub record Room (place : Place) (k : ℕ) : Type 0 where
   pub ok : PlaceOk place
   pub deep : place .in_code ≡ false → place .depth + k ≤ 16
 
+-- ---- Number 7: no operation outside code
+
+-- neither the expression nor what is written in a frame that it is; what is written in a code does not count
+unfoldable mutual
+  pub NoOperation : {P : Type 0} → Expression P → Type 0
+  NoOperation (Expression.base b) = Unit
+  NoOperation (Expression.not b) = Unit
+  NoOperation (Expression.operation o a b) = ⊥
+  NoOperation (Expression.frame ss) = NoOperationIn ss
+
+  pub NoOperationIn : {P : Type 0} → Slots P → Type 0
+  NoOperationIn Slots.no-slots = Unit
+  NoOperationIn (Slots.slot n e ss) = NoOperation e × NoOperationIn ss
+
+-- an expression or slots that have room at a place; outside code without operations
+pub record ExpressionFits (place : Place) (e : Expression Written) : Type 0 where
+  pub room : Room place (expression-deep e)
+  pub plain : place .in_code ≡ false → NoOperation e
+
+pub record SlotsFit (place : Place) (ss : Slots Written) : Type 0 where
+  pub room : Room place (slots-deep ss)
+  pub plain : place .in_code ≡ false → NoOperationIn ss
+
 -- a place in code
 pub record Inside (place : Place) : Type 0 where
   pub ok : PlaceOk place
@@ -99,14 +122,15 @@ pub record Ends (vs : List Symbol) : Type 0 where
   pub no-operator : 16 ≤ front-kind vs → front-kind vs ≤ 24 → ⊥
 
 -- frames in it are written at the place `inner`
-pub record FrameRoom (inner : Place) (e : Expression Written) : Type 0 where
-  pub room : (ss : Slots Written) → e ≡ Expression.frame ss → Room inner (slots-deep ss)
+pub record FrameFits (inner : Place) (e : Expression Written) : Type 0 where
+  pub slots : (ss : Slots Written) → e ≡ Expression.frame ss → SlotsFit inner ss
 
 pub record ExpressionHere (place inner : Place) (us : List Symbol) (e : Expression Written) (vs : List Symbol) : Type 0 where
   pub expression : Expression⊢ us e vs
   pub ends : Ends vs
   pub ok : PlaceOk place
-  pub within : FrameRoom inner e
+  pub plain : place .in_code ≡ false → NoOperation e
+  pub within : FrameFits inner e
 
 -- `!` base
 pub data NegationHere (place : Place) : List Symbol → Expression Written → List Symbol → Type 0 where
@@ -119,7 +143,7 @@ pub data BinaryHere (place : Place) : List Symbol → Expression Written → Lis
 
 -- `frame` `:` `[` slots `]`
 pub data FrameHere (inner : Place) : List Symbol → Expression Written → List Symbol → Type 0 where
-  frame : {ss : Slots Written} {ts vs : List Symbol} → Room inner (slots-deep ss) → Slots⊢ ts ss (Symbol.fixed Fixed.close-square ∷ vs) →
+  frame : {ss : Slots Written} {ts vs : List Symbol} → SlotsFit inner ss → Slots⊢ ts ss (Symbol.fixed Fixed.close-square ∷ vs) →
       FrameHere inner (Symbol.fixed Fixed.frame ∷ Symbol.fixed Fixed.colon ∷ Symbol.fixed Fixed.open-square ∷ ts) (Expression.frame ss) vs
 
 -- ---- Slots
@@ -128,7 +152,7 @@ pub data FrameHere (inner : Place) : List Symbol → Expression Written → List
 pub record SlotsHere (place : Place) (us : List Symbol) (ss : Slots Written) (vs : List Symbol) : Type 0 where
   pub slots : Slots⊢ us ss vs
   pub ends : front-kind vs ≡ 13
-  pub room : Room place (slots-deep ss)
+  pub fits : SlotsFit place ss
 
 -- after one slot those after it are ahead
 pub record SlotDone (place : Place) (s : List ℕ) (table : List (List ℕ)) (m : ℕ) (e : Expression Written) (ss : Slots Written) (n : Next) (p : List ℕ) (vs : List Symbol)

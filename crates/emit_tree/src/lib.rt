@@ -170,7 +170,8 @@ fn frame(
     emit_leaves::skip(c, s, u, 13)
 }
 
-// An expression as expression x, whose first token is t; `inner` is the place of what is written in a frame that it is.
+// An expression as expression x, whose first token is t; `inner` is the place of what is written in a frame that it is. Outside code
+// it is no operation.
 fn expression(
     c: &[u64; 16384],
     s: &[u8],
@@ -194,8 +195,10 @@ fn expression(
     if t.kind == 9 {
         return negation(c, s, begins, ends, hints, count, p, place, x, n, t);
     }
-    if emit_leaves::operator_after(c, s, n.at, t) {
-        return binary(c, s, begins, ends, hints, count, p, place, x, n, t);
+    if place.in_code {
+        if emit_leaves::operator_after(c, s, n.at, t) {
+            return binary(c, s, begins, ends, hints, count, p, place, x, n, t);
+        }
     }
     base(c, s, begins, ends, hints, count, p, place, x, n, t)
 }
@@ -241,7 +244,7 @@ fn slot(
     requires { ⌜ Ready (now c) (now s) (now begins) (now ends) count × Sees (now s) (n .at) t ⌝ }
     ensures { λ r. ⌜ Stands (now (s .entry)) (SlotEmits place (now (s .entry)) (table-of (now (s .entry)) (now (begins .entry)) (now (ends .entry)) count) n q (now (p .entry)) (now (p .exit))) r ⌝ }
 {
-    let k = emit_leaves::name_slot(s, begins, ends, hints, count, p, n, t);
+    let k = emit_leaves::name_slot(c, s, begins, ends, hints, count, p, n, t);
     let inner = emit_steps::within_slot(place, k);
     let m = emit_steps::go_to(n, q);
     let u = right(c, s, begins, ends, hints, count, p, place, inner, m);

@@ -14,8 +14,8 @@ use Rattle.framed.specs.Paths.{Path}
 use Rattle.framed.specs.Machine.{frame-literals, frame-literals-in, join-signs, join-signs-in}
 use Rattle.tables.specs.declared.ExpressionEntry.{ExpressionEntry}
 use Rattle.tables.proofs.ExpressionEntry.{the-type}
-use Rattle.tables.specs.Entries.{expression-at}
-use Rattle.tables.specs.Fields.{expressions, expression-kind, link, slot-name, slot-after}
+use Rattle.tables.specs.Entries.{expression-of, expression-at}
+use Rattle.tables.specs.Fields.{expressions, expression-kind, expression-a, link, slot-name, slot-link, slot-after}
 use Rattle.program_form.specs.Sound.{SlotPlace, Sound}
 use Rattle.program_form.proofs.Decides.{sound}
 use Rattle.trees.specs.Held.{expression-held, slots-held, OneLevel}
@@ -31,7 +31,7 @@ use Rattle.word_store.specs.Store.{Memories, word-store, claim-frame}
 use Rattle.word_store.specs.State.{store-held}
 use Rattle.producing.specs.Producing.{Leaves, made}
 use Rattle.producing.proofs.Leaves.{leaves-none, leaves-both}
-use Rattle.evaluation.specs.Evaluation.{Claims, strings, CanEvaluate, Flat, Evaluates, CanFill, Fills}
+use Rattle.evaluation.specs.Evaluation.{Claims, strings, CanEvaluate, Flat, Evaluates, CanFill, Fills, FilledUpTo, FillsBases}
 use Rattle.evaluation.proofs.Fits.{fits-frame}
 use Rattle.evaluation.proofs.Stores.{next-is, claim-store, push-store, self-kept, program-kept, claim-in-use, claim-leaves, push-leaves}
 
@@ -60,6 +60,24 @@ links-up x d lt = go (ℕ-discrete d 0) (decLe 1024 (x + d))
     go (yes e) b = rw (eq-eqb d 0 e) (omega arith)
     go (no n) (yes b) = rw (ne-eqb d 0 n, le-leb 1024 (x + d) b) (omega arith)
     go (no n) (no b) = let e : 1 + x + d ≡ suc (x + d) = omega arith in rw (ne-eqb d 0 n, lt-leb 1024 (x + d) (omega arith), e) (omega arith)
+
+-- a slot that is not there has none after it
+links-out : (x d : ℕ) → 1024 ≤ x → link 1024 x d ≡ 0
+unfolding link
+links-out x d le = go (ℕ-discrete d 0)
+  where
+    go : Dec (d ≡ 0) → link 1024 x d ≡ 0
+    go (yes e) = rw (eq-eqb d 0 e)
+    go (no n) = rw (ne-eqb d 0 n, le-leb 1024 (x + d) (omega arith))
+
+pub slots-fall : (p : List ℕ) (z w : ℕ) → (z ≡ 0 → ⊥) → w ≡ slot-after p (z - 1) → slots-left w < slots-left z
+unfolding slots-left slot-after
+slots-fall p zero w nz ew = absurd (nz refl)
+slots-fall p (suc y) w nz ew = let e : suc y - 1 ≡ y = omega arith in rw (ew, e) (go (decLe 1024 y))
+  where
+    go : Dec (1024 ≤ y) → slots-left (link 1024 y (slot-link p y)) < 2 * (1024 - y) + 1
+    go (yes b) = rw (links-out y (slot-link p y) b) (omega arith)
+    go (no b) = let q = links-up y (slot-link p y) (omega arith) in omega arith
 
 -- ---- evaluate
 
@@ -156,9 +174,6 @@ module _ (p l h t : List ℕ) (f z : ℕ) (can : CanFill p l h t f z) where
     there : y < expressions p
     there = G .slot-there y place
 
-    y-small : y < 1024
-    y-small = let a = there in let b = can .writable .program .entries .limits .expressions-most in omega arith
-
     slots-are : slots-held p z ≡ Slots.slot (slot-name p y) (expression-held p y) (slots-held p (slot-after p y))
     slots-are = rw z-is (one .slot y place)
 
@@ -201,14 +216,6 @@ module _ (p l h t : List ℕ) (f z : ℕ) (can : CanFill p l h t f z) where
 
       next-full : (low least : ℕ) → Full h low least → Full h₂ low least
       next-full low least a = full-after so-far a
-
-      next-below : (k : ℕ) → slots-left z ≡ k → slots-left w < k
-      unfolding slots-left
-      next-below k ek = go w ew
-        where
-          go : (w : ℕ) → w ≡ slot-after p y → slots-left w < k
-          go zero e = let q : 2 * (1024 - y) + 1 ≡ k = rw z-is at ek in omega arith
-          go (suc u) e = let q : 2 * (1024 - y) + 1 ≡ k = rw z-is at ek in let a = G .slot-larger y u (sym e) in let b = y-small in omega arith
 
       rest-filled : (h₃ t₃ : List ℕ) → Fills p l h₂ t₁ f w h₃ t₃ → Fills p l h t f z h₃ t₃
       rest-filled h₃ t₃ k =
@@ -263,16 +270,13 @@ module _ (p l : List ℕ) (f from low least : ℕ) (h₀ t₀ : List ℕ) where
       fill-falls m em = let a = slot-below p l h t f z (k .can) nz (z - 1) refl (slots-left z) refl in let b = k .fewer in omega arith
 
       module _ (v : Value) (h₁ t₁ : List ℕ) (m : Evaluates p l h t (z - 1) v h₁ t₁) (x : ℕ) (ex : x ≡ slot-name p (z - 1)) (h₂ : List ℕ) (eh : h₂ ≡ add-slot h₁ f x v) (w : ℕ) (ew : w ≡ slot-after p (z - 1)) where
-        pub fill-less : slots-left w < slots-left z
-        fill-less = next-below p l h t f z (k .can) nz (z - 1) refl v h₁ t₁ m x ex h₂ eh w ew (slots-left z) refl
-
         pub fill-again : Filling h₂ t₁ w
         fill-again =
             let c = next-can p l h t f z (k .can) nz (z - 1) refl v h₁ t₁ m x ex h₂ eh w ew in
             record {
               can = c;
               full = next-full p l h t f z (k .can) nz (z - 1) refl v h₁ t₁ m x ex h₂ eh w ew low least (k .full);
-              fewer = let a = fill-less in let b = k .fewer in omega arith;
+              fewer = let a = slots-fall p z w nz ew in let b = k .fewer in omega arith;
               size = c .writable .sized .size ∙ sym (k .can .writable .sized .size) ∙ k .size;
               text-size = c .writable .text-size ∙ sym (k .can .writable .text-size) ∙ k .text-size;
               back = λ h₃ t₃ q. k .back h₃ t₃ (rest-filled p l h t f z (k .can) nz (z - 1) refl v h₁ t₁ m x ex h₂ eh w ew h₃ t₃ q);
@@ -284,8 +288,64 @@ module _ (p l : List ℕ) (f from low least : ℕ) (h₀ t₀ : List ℕ) where
         read : Evaluates p l h t (z - 1) v h t
         read = base-evaluates p l h t (z - 1) fill-can-evaluate q eq lt v ev
 
-        pub base-less : slots-left w < slots-left z
-        base-less = fill-less v h t read x ex h₂ eh w ew
-
         pub base-again : Filling h₂ t w
         base-again = fill-again v h t read x ex h₂ eh w ew
+
+-- ---- fill_bases
+
+-- the loop: the bases so far
+module _ (p : List ℕ) (f from : ℕ) (h₀ : List ℕ) where
+  pub record FillingBases (h : List ℕ) (z : ℕ) : Type 0 where
+    size : length h ≡ length h₀
+    so-far : FillsBases p h₀ f from z h
+
+  pub bases-start : FillingBases h₀ from
+  bases-start = record { size = refl; so-far = record { filled = λ l t c. record { can = c; leaves = leaves-none 0 0 (c .writable .sized) (c .writable .text-size); rest = λ h″ t″ q. q } } }
+
+  module _ (h : List ℕ) (z : ℕ) (k : FillingBases h z) where
+    pub bases-size : length h ≡ length h₀
+    bases-size = k .size
+
+    pub bases-end : FillsBases p h₀ f from z h
+    bases-end = k .so-far
+
+    pub bases-done : z ≡ 0 → FillsBases p h₀ f from 0 h
+    bases-done e = rw e at (k .so-far)
+
+    module _ (nz : z ≡ 0 → ⊥) (q : ℕ) (eq : q ≡ expression-kind p (z - 1)) (lt : q < 5) (v : Value) (ev : v ≡ value-given (operand-value p h (z - 1)))
+        (x : ℕ) (ex : x ≡ slot-name p (z - 1)) (h₂ : List ℕ) (eh : h₂ ≡ add-slot h f x v) (w : ℕ) (ew : w ≡ slot-after p (z - 1)) where
+      one-more : (l t : List ℕ) → FilledUpTo p l h₀ t f from z h → FilledUpTo p l h₀ t f from w h₂
+      one-more l t b =
+          let c = b .can in
+          let m = base-evaluates p l h t (z - 1) (slot-can p l h t f z c nz (z - 1) refl) q eq lt v ev in
+          record {
+            can = next-can p l h t f z c nz (z - 1) refl v h t m x ex h₂ eh w ew;
+            leaves = leaves-both (b .leaves) (pushed p l h t f z c nz (z - 1) refl v h t m x ex h₂ eh w ew);
+            rest = λ h″ t″ r. b .rest h″ t″ (rest-filled p l h t f z c nz (z - 1) refl v h t m x ex h₂ eh w ew h″ t″ r);
+          }
+
+      pub bases-again : length h₂ ≡ length h → FillingBases h₂ w
+      bases-again e = record { size = e ∙ k .size; so-far = record { filled = λ l t c. one-more l t (k .so-far .filled l t c) } }
+
+-- ---- make
+
+module _ (p l h t : List ℕ) (x : ℕ) (can : CanEvaluate p l h t x) (f : ℕ) (h₁ : List ℕ) (c : Claims h f h₁) (z r : ℕ) (h₂ : List ℕ) (b : FillsBases p h₁ f z r h₂)
+    (d : ℕ) (ed : d ≡ expression-a p x) (ez : z ≡ link 1024 x d) (k : ℕ) (ek : k ≡ expression-kind p x) (is : k ≡ 5) where
+  frame-entry : ExpressionEntry.Frame d ≡ expression-at p x
+  unfolding expression-at expression-of
+  frame-entry = rw (← ek, is, ed)
+
+  up-to : FilledUpTo p l h₁ t f z r h₂
+  up-to = b .filled l t (evaluate-can-fill p l h t x can (ExpressionEntry.Frame d) frame-entry d refl f h₁ c z ez)
+
+  pub make-can-fill : CanFill p l h₂ t f r
+  make-can-fill = up-to .can
+
+  pub make-full : (low least : ℕ) → Full h low least → Full h₂ low least
+  make-full low least a = full-after (up-to .leaves) (evaluate-full p l h t x can (ExpressionEntry.Frame d) frame-entry d refl f h₁ c z ez low least a)
+
+  pub make-rest : (h′ t′ : List ℕ) → Fills p l h₂ t f r h′ t′ → Evaluates p l h t x (Value.Frame f) h′ t′
+  make-rest h′ t′ k = evaluate-frame p l h t x can (ExpressionEntry.Frame d) frame-entry d refl f h₁ c z ez h′ t′ (up-to .rest h′ t′ k)
+
+  pub make-bases : r ≡ 0 → Evaluates p l h t x (Value.Frame f) h₂ t
+  make-bases e = make-rest h₂ t (none-left p l h₂ t f r (up-to .can) e)

@@ -59,3 +59,15 @@ pub record CanFill (p l h t : List ℕ) (f z : ℕ) : Type 0 where
 pub record Fills (p l h t : List ℕ) (f z : ℕ) (h′ t′ : List ℕ) : Type 0 where
   pub stored : fill word-store (strings p l) (self-held h) (program-held h) f (trees.slots-held p z) (store-held h t) ≡ store-held h′ t′
   pub leaves : Leaves h t (frame-literals-in (trees.slots-held p z)) (join-signs-in (trees.slots-held p z)) h′ t′
+
+-- ---- Bases among the slots
+
+-- those from z on are pushed up to the place r, and nothing is made: what fills the slots from r on then fills all
+pub record FilledUpTo (p l h t : List ℕ) (f z r : ℕ) (h′ : List ℕ) : Type 0 where
+  pub can : CanFill p l h′ t f r
+  pub leaves : Leaves h t 0 0 h′ t
+  pub rest : (h″ t″ : List ℕ) → Fills p l h′ t f r h″ t″ → Fills p l h t f z h″ t″
+
+-- so with all literal and text bytes with which the slots can be filled
+pub record FillsBases (p h : List ℕ) (f z r : ℕ) (h′ : List ℕ) : Type 0 where
+  pub filled : (l t : List ℕ) → CanFill p l h t f z → FilledUpTo p l h t f z r h′

@@ -2,7 +2,7 @@
 use framed::Value;
 use tables::ExpressionEntry;
 ghost use Rattle.allocation.specs.Known.{FullBelow, TextsFull, Full};
-ghost use Rattle.evaluation.specs.Evaluation.{Claims, CanEvaluate, Flat, Evaluates, CanFill, Fills};
+ghost use Rattle.evaluation.specs.Evaluation.{Claims, CanEvaluate, Flat, Evaluates, CanFill, Fills, FillsBases};
 
 // The lowest frame not in use is taken, without slots; those below `low` are in use.
 pub fn claim(h: &mut [u32], low: u32) -> u32
@@ -76,4 +76,39 @@ pub fn fill(
         heap::add_slot(h, f, tables::slot_name(p, y), v);
         z = tables::slot_after(p, y);
     }
+}
+
+// The bases (kinds 0 to 4) from a place on, pushed on frame f, up to a slot that is no base: its place, 0 where none is left.
+pub fn fill_bases(p: &[u32], h: &mut [u32], f: u32, from: u32) -> u32
+    ensures { λ r. ⌜ FillsBases (now (p .entry)) (now (h .entry)) f from r (now (h .exit)) ⌝ }
+{
+    let mut z = from;
+    while z != 0 {
+        let y = z - 1;
+        if 5 <= tables::expression_kind(p, y) {
+            return z;
+        }
+        let u = producing::given(p, h, y);
+        heap::add_slot(h, f, tables::slot_name(p, y), u);
+        z = tables::slot_after(p, y);
+    }
+    0
+}
+
+// The same as `evaluate`; of a frame literal (kind 5) the bases that come first are pushed by a loop of their own.
+pub fn make(p: &[u32], l: &[u8], h: &mut [u32], t: &mut [u8], x: u32, low: u32, least: u32) -> Value
+    requires { ⌜ CanEvaluate (now p) (now l) (now h) (now t) x ⌝ }
+    requires { ⌜ Full (now h) low least ⌝ }
+    ensures { λ r. ⌜ Evaluates (now (p .entry)) (now (l .entry)) (now (h .entry)) (now (t .entry)) x r (now (h .exit)) (now (t .exit)) ⌝ }
+{
+    if tables::expression_kind(p, x) != 5 {
+        return evaluate(p, l, h, t, x, low, least);
+    }
+    let f = claim(h, low);
+    let z = fill_bases(p, h, f, tables::link(1024, x, tables::expression_a(p, x)));
+    if z == 0 {
+        return Value::Frame(f);
+    }
+    fill(p, l, h, t, f, z, low, least);
+    Value::Frame(f)
 }

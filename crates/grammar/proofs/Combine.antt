@@ -147,6 +147,7 @@ module _ (s : List ℕ) (at : ℕ) (t : TokenRead) (says : TokenAt class s at t)
     further = λ u ts d. absurd (no-first o u ts d);
     reads = λ u ts d. absurd (no-first o u ts d);
     end-is = λ lo hi l h m. absurd (omega arith);
+    stands = λ l. absurd (omega arith);
   }
 
   pub expect-none : (lo hi : ℕ) → KindsOk lo hi → OneOf (0 ∷ 1 ∷ []) (tagOf the-type t) → Expects s lo hi at Found.Refused
@@ -218,6 +219,7 @@ module _ (s : List ℕ) (at : ℕ) (t : TokenRead) (says : TokenAt class s at t)
       further = λ u ts d. omega (arith, spot .begins, spot .more);
       reads = λ u ts d. is-first u ts d .1;
       end-is = λ lo hi l h m. expect-one lo hi l h;
+      stands = λ l. rw f at says;
     }
 
 -- ---- Readers of one symbol

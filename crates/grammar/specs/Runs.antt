@@ -13,7 +13,8 @@ use Rattle.framed.specs.Symbols.{Symbol, numbered, symbols}
 use Rattle.framed.specs.Parse.{Parsed, fails, parsed, Reader, parse}
 use Rattle.framed.specs.Meaning.{is-none}
 use Rattle.source.specs.Positions.{rest, part}
-use Rattle.token.specs.Reading.{signed}
+use Rattle.token.specs.Reading.{signed, TokenAt}
+use Rattle.token.specs.declared.TokenRead.{TokenRead}
 use Rattle.sweep.specs.Kinds.{kind-of, front-kind}
 use Rattle.grammar.specs.declared.Found.{Found}
 use Rattle.grammar.specs.declared.Seen.{Seen}
@@ -84,6 +85,7 @@ pub record Sees (s : List ℕ) (at : ℕ) (t : Seen) : Type 0 where
   pub further : (u : Token) (ts : List Token) → Tokens⊢ class (rest s at) (u ∷ ts) → at < t .end
   pub reads : (u : Token) (ts : List Token) → Tokens⊢ class (rest s at) (u ∷ ts) → Tokens⊢ class (rest s (t .end)) ts
   pub end-is : (lo hi : ℕ) → lo ≤ t .kind → t .kind ≤ hi → hi < 29 → Expects s lo hi at (Found.Done (t .end))
+  pub stands : t .kind < 29 → TokenAt class s at (TokenRead.Token (t .kind) (t .begin) (t .end) (t .word))
 
 -- a function outside the cycle that reads at least one token
 pub record ReadsOn {A : Type 0} (R : Reader A) (s : List ℕ) (at : ℕ) (r : Found) : Type 0 where

@@ -19,7 +19,6 @@ use Rattle.shapes.proofs.Accepted.{accepted-shaped}
 use Rattle.emission.specs.Emit.{cleared, program-words, literal-bytes}
 use Rattle.emission_tree.proofs.Whole.{program-at}
 use Rattle.emission_accepted.proofs.Kept.{accepted-kept}
-use Rattle.names.specs.Kept.{Kept}
 use Rattle.check_source.specs.Numbers as check
 use Rattle.accepted.specs.Accepted.{Accepted}
 use Rattle.accepted.proofs.Accepted.{accepted-sources}
@@ -62,9 +61,9 @@ module _ (m : Memories) (source : List ℕ) (F T : ℕ) (q : Program) (re : refu
         no-renaming = start-held .no-renaming;
       }
 
--- the names of a source that loads are kept
-pub loaded-kept : (r : LoadAnswer) (source b e : List ℕ) (n : ℕ) → check.KeptAt (load-number r) source b e n → r ≡ LoadAnswer.Loaded → Kept source b e n
-loaded-kept r source b e n k q = k .is (ap load-number q)
+-- what is kept of a source that loads
+pub loaded-kept : (r : LoadAnswer) (c source b e o : List ℕ) (n m : ℕ) → check.KeptAt (load-number r) c source b e o n m → r ≡ LoadAnswer.Loaded → check.KeptAll c source b e o n m
+loaded-kept r c source b e o n m k q = k .is (ap load-number q)
 
 -- ---- install
 

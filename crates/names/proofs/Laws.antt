@@ -11,9 +11,7 @@ use native.Mathlib.Decide.{ℕ-discrete, decLt}
 use lib.Dec.{eqb, ltb}
 use lib.ListN.{length, length-append, drop, set, drop-of-length-le}
 use lib.Seq.{drop-cons}
-use types.Run.{OneOf, miss}
-use denote.Enum.Declared.{tagOf}
-use borrow.Author.Tests.{eq-eqb, ne-eqb, lt-ltb, eqb-true, eqb-false}
+use borrow.Author.Tests.{ne-eqb, lt-ltb, eqb-true, eqb-false}
 use Rattle.framed.specs.Common.{if_then_else_, any, same}
 use Rattle.framed.specs.Bytes.{class}
 use Rattle.framed.specs.Tokens.{Token, tokens}
@@ -23,14 +21,13 @@ use Rattle.words.specs.Words.{word, set-word}
 use Rattle.words.proofs.Laws.{word-other, word-same, set-size, set-past}
 use Rattle.token.specs.Reading.{token-of, token-kind, TokenAt, Spot}
 use Rattle.token.specs.declared.TokenRead.{TokenRead}
-use Rattle.token.proofs.TokenRead.{the-type}
 use Rattle.token.proofs.KindNumbers.{kind-is}
 use Rattle.token.proofs.Answers.{spot-of}
 use Rattle.shapes.proofs.Names.{same-equal, same-self}
 use Rattle.sweep.proofs.Lists.{or-false, or-true, any-last}
 use Rattle.sweep.proofs.Loop as Loop
 use Rattle.sweep.proofs.Loop.{Going, Gives, go-start, go-end, go-none, go-done, go-again}
-use Rattle.names.specs.Kept.{table-of, is-new, hash-from, hash-of, Marked, Few, Sized, Numbered, Noted, Kept}
+use Rattle.names.specs.Kept.{table-of, is-new, hash-from, hash-of, Marked, Sized, Numbered, Noted, Kept}
 
 -- ---- The names kept
 
@@ -81,33 +78,6 @@ module _ (s b e : List ℕ) (n a p k : ℕ) (i : Searching s b e n a p k) (l : 0
   pub known-again : t ≡ false → Searching s b e n a p (k - 1)
   known-again d = record { rest-is = i .rest-is ∙ last-is ∙ ap (λ (u : Bool). any (same (part s a p)) (table-of s b e (k - 1)) || u) d ∙ or-false (any (same (part s a p)) (table-of s b e (k - 1))) }
 
--- name k is the name itself
-pub known-there : (s b e : List ℕ) (n a p k : ℕ) → k < n → (x y : ℕ) → x ≡ word b k → y ≡ word e k → (t : Bool) → t ≡ same (part s a p) (part s x y) → t ≡ true →
-    true ≡ any (same (part s a p)) (table-of s b e n)
-unfolding table-of
-known-there s b e zero a p k l x y ex ey t h d = absurd (omega arith)
-known-there s b e (suc n) a p k l x y ex ey t h d =
-    go (ℕ-discrete k n) (λ z. known-there s b e n a p k (less k n l z) x y ex ey t h d) ∙ sym (any-last (same (part s a p)) (table-of s b e n) (part s (word b n) (word e n)))
-  where
-    last : k ≡ n → same (part s a p) (part s (word b n) (word e n)) ≡ true
-    last z = ap (λ (j : ℕ). same (part s a p) (part s (word b j) (word e j))) (sym z) ∙ rw (← ex, ← ey) (sym h ∙ d)
-
-    less : (k n : ℕ) → k < suc n → (k ≡ n → ⊥) → k < n
-    less k n l z = omega arith
-
-    go : Dec (k ≡ n) → ((k ≡ n → ⊥) → true ≡ any (same (part s a p)) (table-of s b e n)) →
-        true ≡ (any (same (part s a p)) (table-of s b e n) || same (part s a p) (part s (word b n) (word e n)))
-    go (yes z) f = sym (ap (λ (u : Bool). any (same (part s a p)) (table-of s b e n) || u) (last z) ∙ or-true (any (same (part s a p)) (table-of s b e n)))
-    go (no z) f = rw (← f z)
-
--- the same of numbers that are given by words
-pub recalled-there : (s b e : List ℕ) (n a p k : ℕ) → k < n → (i j x y : ℕ) → i ≡ k → x ≡ word b i → j ≡ k → y ≡ word e j → (t : Bool) → t ≡ same (part s a p) (part s x y) → t ≡ true →
-    true ≡ any (same (part s a p)) (table-of s b e n)
-recalled-there s b e n a p k l i j x y ei ex ej ey t h d = known-there s b e n a p k l x y (ex ∙ ap (word b) ei) (ey ∙ ap (word e) ej) t h d
-
-pub recalled-else : (s b e : List ℕ) (n m a p : ℕ) → m ≡ n → (t : Bool) → t ≡ any (same (part s a p)) (table-of s b e m) → t ≡ any (same (part s a p)) (table-of s b e n)
-recalled-else s b e n m a p em t h = h ∙ rw em
-
 -- ---- Hints
 
 hash-bound-from : (h : ℕ) (w : List ℕ) → hash-from h w < 4096
@@ -145,10 +115,6 @@ hash-small h r e = rw e (mod-lt h (omega arith))
 
 pub hint-is : (hints w : List ℕ) (h g r : ℕ) → h ≡ hash-of w → g ≡ word hints h → r ≡ g → r ≡ word hints (hash-of w)
 hint-is hints w h g r eh eg er = er ∙ eg ∙ ap (word hints) eh
-
-pub hint-set : (hints w : List ℕ) (h n v : ℕ) → h ≡ hash-of w → v ≡ n + 1 → set hints h v ≡ set-word hints (hash-of w) (n + 1)
-unfolding set-word
-hint-set hints w h n v eh ev = rw (eh, ev)
 
 -- a name whose hash has no hint is none of those kept
 pub unknown : (s b e hints : List ℕ) (n a p : ℕ) → Marked s b e hints n → (g : ℕ) → g ≡ word hints (hash-of (part s a p)) → g ≡ 0 →
@@ -238,7 +204,7 @@ swapped v w f = go (same v w) refl
     go false e = refl
 
 -- a name that is none of them has no number among them
-number-none : (vs : List (List ℕ)) (w : List ℕ) → any (same w) vs ≡ false → number-in vs w ≡ length vs
+pub number-none : (vs : List (List ℕ)) (w : List ℕ) → any (same w) vs ≡ false → number-in vs w ≡ length vs
 unfolding number-in any
 number-none [] w f = refl
 number-none (v ∷ vs) w f = go (same w v) refl f (λ q. number-none vs w q)
@@ -277,7 +243,7 @@ module _ (s b e : List ℕ) (n a p : ℕ) (hb : n < length b) (he : n < length e
       go k l (yes q) = own-before k q
       go k l (no q) = rw (last k l q) own-last
 
-numbered-none : (s b e : List ℕ) → Numbered s b e 0
+pub numbered-none : (s b e : List ℕ) → Numbered s b e 0
 numbered-none s b e = record { own = λ k l. absurd (none k l) }
   where
     none : (k : ℕ) → k < 0 → ⊥
@@ -294,20 +260,6 @@ module _ (s b e hints : List ℕ) (n k a p : ℕ) where
   pub keep-other : (k ≡ 25 → ⊥) → Noted s b e hints n k a p b e hints n
   unfolding is-new
   keep-other h = record { begins-is = rw (ne-eqb k 25 h); ends-is = rw (ne-eqb k 25 h); hints-are = rw (ne-eqb k 25 h); count-is = rw (ne-eqb k 25 h) }
-
-  module _ (h : k ≡ 25) (t : Bool) (et : t ≡ any (same (part s a p)) (table-of s b e n)) where
-    newness : is-new s b e n k a p ≡ not t
-    unfolding is-new
-    newness = rw (eq-eqb k 25 h, et)
-
-    pub keep-known : t ≡ true → Noted s b e hints n k a p b e hints n
-    keep-known d = let g : is-new s b e n k a p ≡ false = newness ∙ ap not d in record { begins-is = rw g; ends-is = rw g; hints-are = rw g; count-is = rw g }
-
-    pub keep-new : t ≡ false → (hints' : List ℕ) → hints' ≡ set-word hints (hash-of (part s a p)) (n + 1) → (i j : ℕ) → i ≡ n → j ≡ n →
-        (b' e' : List ℕ) → b' ≡ set-word b i a → e' ≡ set-word e j p → Noted s b e hints n k a p b' e' hints' (n + 1)
-    keep-new d hints' eh i j ei ej b' e' eb ee =
-        let g : is-new s b e n k a p ≡ true = newness ∙ ap not d in
-        record { begins-is = rw g (eb ∙ rw ei); ends-is = rw g (ee ∙ rw ej); hints-are = rw g eh; count-is = rw g }
 
 -- ---- The loop that keeps them
 
@@ -387,17 +339,12 @@ module _ (s b e hints : List ℕ) (n at : ℕ) (i : Keeping s b e hints n at) wh
   pub keeping-done : length s ≤ at → Kept s b e n
   keeping-done l = ended (go-done _ s 0 _ at (i .going) l)
 
-  pub keeping-few : Few n
-  keeping-few = record { few = i .few }
-
   module _ (r : TokenRead) (found : TokenAt class s at r) where
-    pub keeping-none : OneOf (0 ∷ 1 ∷ []) (tagOf the-type r) → Kept s b e n
-    keeping-none o = go r refl o
-      where
-        go : (q : TokenRead) → r ≡ q → OneOf (0 ∷ 1 ∷ []) (tagOf the-type q) → Kept s b e n
-        go TokenRead.End h o = ended (go-end _ s 0 _ at (i .going) r found h)
-        go TokenRead.NoToken h o = ended (go-none _ s 0 _ at (i .going) r found h _)
-        go (TokenRead.Token k a p x) h o = absurd (miss (0 ∷ 1 ∷ []) 2 tt o)
+    pub keeping-end : r ≡ TokenRead.End → Kept s b e n
+    keeping-end h = ended (go-end _ s 0 _ at (i .going) r found h)
+
+    pub keeping-none : r ≡ TokenRead.NoToken → Kept s b e n
+    keeping-none h = ended (go-none _ s 0 _ at (i .going) r found h _)
 
     module _ (k a p w : ℕ) (h : r ≡ TokenRead.Token k a p w) (b' e' hints' : List ℕ) (n' : ℕ) (noted : Noted s b e hints n k a p b' e' hints' n') where
       record After : Type 0 where

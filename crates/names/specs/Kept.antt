@@ -12,6 +12,9 @@ use Rattle.framed.specs.Tokens.{Token, tokens}
 use Rattle.framed.specs.Symbols.{name-table, number-in}
 use Rattle.source.specs.Positions.{part}
 use Rattle.words.specs.Words.{word, set-word}
+use Rattle.token.specs.Reading.{TokenAt}
+use Rattle.token.specs.declared.TokenRead.{TokenRead}
+use Rattle.token_cache.specs.Cache.{note-at}
 
 -- the first n names kept
 unfoldable pub table-of : List ℕ → List ℕ → List ℕ → ℕ → List (List ℕ)
@@ -37,6 +40,13 @@ pub record Noted (s begins ends hints : List ℕ) (n k a p : ℕ) (begins' ends'
   pub hints-are : hints' ≡ (if is-new s begins ends n k a p then set-word hints (hash-of (part s a p)) (n + 1) else hints)
   pub count-is : r ≡ (if is-new s begins ends n k a p then n + 1 else n)
 
+-- the part from a up to p is name r; where it was none of the first n, it is kept as name n, with a hint
+pub record KeptAs (s begins ends hints : List ℕ) (n a p : ℕ) (begins' ends' hints' : List ℕ) (r : ℕ) : Type 0 where
+  pub number-is : r ≡ number-in (table-of s begins ends n) (part s a p)
+  pub begins-is : begins' ≡ (if eqb r n then set-word begins n a else begins)
+  pub ends-is : ends' ≡ (if eqb r n then set-word ends n p else ends)
+  pub hints-are : hints' ≡ (if eqb r n then set-word hints (hash-of (part s a p)) (n + 1) else hints)
+
 -- each of the first n names kept has a hint by its hash
 pub record Marked (s begins ends hints : List ℕ) (n : ℕ) : Type 0 where
   pub size : length hints ≡ 4096
@@ -60,3 +70,7 @@ pub record Kept (s begins ends : List ℕ) (n : ℕ) : Type 0 where
   pub numbered : Numbered s begins ends n
   pub is : (ts : List Token) → tokens class s ≡ some ts → length (name-table ts) ≤ 128 → table-of s begins ends n ≡ name-table ts
   pub many : (ts : List Token) → tokens class s ≡ some ts → ltb 128 n ≡ ltb 128 (length (name-table ts))
+
+-- each note of the cache is 1 and the number of the name that stands there, one of the first n
+pub record Leads (c s begins ends : List ℕ) (n : ℕ) : Type 0 where
+  pub leads : (at h a p w : ℕ) → note-at c at ≡ suc h → TokenAt class s at (TokenRead.Token 25 a p w) → (h < n) × (part s (word begins h) (word ends h) ≡ part s a p)

@@ -1,12 +1,11 @@
-// Names of a source kept by where they begin and end, by first appearance: whether one is known, and how many there are.
+// Names of a source kept by where they begin and end, by first appearance: whether one is known, the number of each, and how many there are.
 ghost use mathlib.Core.Path.{_≡_};
 ghost use Prim.Native.Nat.{_+_, _<_};
 ghost use Rattle.framed.specs.Common.{any, same};
+ghost use Rattle.framed.specs.Symbols.{number-in};
 ghost use Rattle.source.specs.Positions.{part};
 ghost use Rattle.words.specs.Words.{word, set-word};
-ghost use Rattle.token_cache.specs.Cache.{Cached};
-ghost use Rattle.names.specs.Kept.{table-of, hash-of, Marked, Few, Sized, Noted, Kept};
-use token::TokenRead;
+ghost use Rattle.names.specs.Kept.{table-of, hash-of, Marked, Few, Numbered, KeptAs};
 use words::wide;
 
 pub fn place(m: &[usize], k: usize) -> usize
@@ -79,96 +78,95 @@ pub fn hint(s: &[u8], hints: &[u8; 4096], a: usize, p: usize) -> u32
     g as u32
 }
 
-// The part from a up to p is kept as name n.
-fn set_hint(s: &[u8], hints: &mut [u8; 4096], n: u32, a: usize, p: usize)
-    requires { ⌜ Few n ⌝ }
-    ensures { λ _. ⌜ now (hints .exit) ≡ set-word (now (hints .entry)) (hash-of (part (now (s .entry)) a p)) (n + 1) ⌝ }
+// ---- The number of a name
+
+// The number of a word among the first n names kept; n where it is none of them.
+pub fn number_of(s: &[u8], begins: &[usize], ends: &[usize], n: u32, w: &[u8]) -> u32
+    ensures { λ r. ⌜ r ≡ number-in (table-of (now (s .entry)) (now (begins .entry)) (now (ends .entry)) n) (now (w .entry)) ⌝ }
 {
-    let h = hash(s, a, p);
-    hints[h] = (n + 1) as u8;
+    let mut k = 0;
+    while k < n {
+        let a = place(begins, wide(k));
+        let p = place(ends, wide(k));
+        let v = token::token_bytes(s, a, p);
+        if lexeme::is_word(v, w) {
+            return k;
+        }
+        k += 1;
+    }
+    n
 }
 
-// The same as `known`, of names with hints: one that has no hint is not known, and one that its hint leads to is.
-fn recalled(
+// The number of the part from a up to p among the first n names kept; n where it is none of them. Where name k is the name itself, no other is looked at.
+pub fn number_from(
     s: &[u8],
     begins: &[usize],
     ends: &[usize],
-    hints: &[u8; 4096],
-    n: u32,
-    a: usize,
-    p: usize,
-) -> bool
-    requires { ⌜ Marked (now s) (now begins) (now ends) (now hints) n ⌝ }
-    ensures { λ r. ⌜ r ≡ any (same (part (now (s .entry)) a p)) (table-of (now (s .entry)) (now (begins .entry)) (now (ends .entry)) n) ⌝ }
-{
-    let g = hint(s, hints, a, p);
-    if g == 0 {
-        return false;
-    }
-    let k = g - 1;
-    if k < n {
-        let b = place(begins, wide(k));
-        let q = place(ends, wide(k));
-        if same_parts(s, a, p, b, q) {
-            return true;
-        }
-    }
-    known(s, begins, ends, wide(n), a, p)
-}
-
-// ---- The names of a source
-
-// Keeps a token of kind k where it is a new name: how many are kept after it.
-fn keep(
-    s: &[u8],
-    begins: &mut [usize],
-    ends: &mut [usize],
-    hints: &mut [u8; 4096],
     n: u32,
     k: u32,
     a: usize,
     p: usize,
 ) -> u32
-    requires few { ⌜ Few n ⌝ }
-    requires marked { ⌜ Marked (now s) (now begins) (now ends) (now hints) n ⌝ }
-    ensures noted { λ r. ⌜ Noted (now (s .entry)) (now (begins .entry)) (now (ends .entry)) (now (hints .entry)) n k a p (now (begins .exit)) (now (ends .exit)) (now (hints .exit)) r ⌝ }
+    requires { ⌜ Numbered (now s) (now begins) (now ends) n ⌝ }
+    ensures { λ r. ⌜ r ≡ number-in (table-of (now (s .entry)) (now (begins .entry)) (now (ends .entry)) n) (part (now (s .entry)) a p) ⌝ }
 {
-    if k != 25 {
-        return n;
+    if k < n {
+        let b = place(begins, wide(k));
+        let q = place(ends, wide(k));
+        if same_parts(s, b, q, a, p) {
+            return k;
+        }
     }
-    if recalled(s, begins, ends, hints, n, a, p) {
-        return n;
-    }
-    set_hint(s, hints, n, a, p);
-    set_place(begins, wide(n), a);
-    set_place(ends, wide(n), p);
-    n + 1
+    let w = token::token_bytes(s, a, p);
+    number_of(s, begins, ends, n, w)
 }
 
-// Keeps the names of the source by first appearance, at most 129: how many there are.
-pub fn keep_names(
-    c: &[u64; 16384],
+// The same by the hash of that part: where it has no hint, it is none of them.
+fn number_hashed(
+    s: &[u8],
+    begins: &[usize],
+    ends: &[usize],
+    hints: &[u8; 4096],
+    n: u32,
+    h: usize,
+    a: usize,
+    p: usize,
+) -> u32
+    requires marked { ⌜ Marked (now s) (now begins) (now ends) (now hints) n ⌝ }
+    requires numbered { ⌜ Numbered (now s) (now begins) (now ends) n ⌝ }
+    requires hashed { ⌜ h ≡ hash-of (part (now s) a p) ⌝ }
+    ensures { λ r. ⌜ r ≡ number-in (table-of (now (s .entry)) (now (begins .entry)) (now (ends .entry)) n) (part (now (s .entry)) a p) ⌝ }
+{
+    let g = words::byte(hints, h);
+    if g == 0 {
+        return n;
+    }
+    let k = (g as u32) - 1;
+    number_from(s, begins, ends, n, k, a, p)
+}
+
+// The number of the name from a up to p among those kept; a new one is kept as the next.
+pub fn number(
     s: &[u8],
     begins: &mut [usize],
     ends: &mut [usize],
     hints: &mut [u8; 4096],
+    n: u32,
+    a: usize,
+    p: usize,
 ) -> u32
-    requires cached { ⌜ Cached (now c) (now s) ⌝ }
-    requires sized { ⌜ Sized (now begins) (now ends) (now hints) ⌝ }
-    ensures { λ r. ⌜ Kept (now (s .entry)) (now (begins .exit)) (now (ends .exit)) r ⌝ }
+    requires few { ⌜ Few n ⌝ }
+    requires marked { ⌜ Marked (now s) (now begins) (now ends) (now hints) n ⌝ }
+    requires numbered { ⌜ Numbered (now s) (now begins) (now ends) n ⌝ }
+    ensures { λ r. ⌜ KeptAs (now (s .entry)) (now (begins .entry)) (now (ends .entry)) (now (hints .entry)) n a p (now (begins .exit)) (now (ends .exit)) (now (hints .exit)) r ⌝ }
 {
-    let mut n = 0;
-    let mut at = 0;
-    while at < s.len() {
-        let t = token_cache::token_in(c, s, at);
-        let TokenRead::Token(k, a, p, _w) = t else {
-            return n;
-        };
-        n = keep(s, begins, ends, hints, n, k, a, p);
-        if 128 < n {
-            return n;
-        }
-        at = p;
+    let h = hash(s, a, p);
+    let r = number_hashed(s, begins, ends, hints, n, h, a, p);
+    if r != n {
+        return r;
     }
+    hints[h] = (n + 1) as u8;
+    set_place(begins, wide(n), a);
+    set_place(ends, wide(n), p);
     n
 }

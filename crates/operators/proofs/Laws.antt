@@ -154,6 +154,22 @@ unfolding of-flag flag
 of-flag-is true bs = refl
 of-flag-is false bs = refl
 
+-- what `arithmetic` and `compare` say is what the operator gives
+module _ (ls made : List (List ℕ)) (k : ℕ) (v w : Value) where
+  pub arithmetic-means : k < 12 → arithmetic-operated k v w ≡ operated ls made (operator-of k) v w
+  unfolding operator-of arithmetic-operated operated
+  arithmetic-means lt = rw (lt-ltb k 12 lt) (arithmetic-case (λ o. operated [] [] o v w ≡ operated ls made o v w) refl refl refl refl refl k)
+
+  pub compared-means : 12 ≤ k → (k ≡ 12 → ⊥) → gives (flag (compared ls made k v w)) ≡ operated ls made (operator-of k) v w
+  unfolding operator-of operated compared
+  compared-means ge n = rw (le-ltb k 12 ge, ne-eqb k 12 n) (go (eqb k 13) (eqb k 14))
+    where
+      go : (x y : Bool) → gives (flag (pick x (equal-values ls made v w) (pick y (truth v && truth w) (truth v || truth w))))
+          ≡ operated ls made (pick x Operator.equal (pick y Operator.and Operator.or)) v w
+      go true y = refl
+      go false true = refl
+      go false false = refl
+
 module _ (p l h t : List ℕ) (k : ℕ) (v w : Value) (r : Operated) where
   abbrev lits : List (List ℕ)
   lits = literals-held p l
@@ -162,12 +178,7 @@ module _ (p l h t : List ℕ) (k : ℕ) (v w : Value) (r : Operated) where
   made = texts-held h t
 
   pub operates-integers : k < 12 → (a : Arithmetic) → outcome a ≡ arithmetic-operated k v w → r ≡ of-arithmetic a → Operates p l h t k v w r
-  unfolding operator-of arithmetic-operated operated
-  operates-integers lt a ea er = record {
-    is =
-        rw (er, of-arithmetic-is a (join-bytes lits made v w), ea, lt-ltb k 12 lt)
-        (arithmetic-case (λ o. operated [] [] o v w ≡ operated lits made o v w) refl refl refl refl refl k);
-  }
+  operates-integers lt a ea er = record { is = rw (er, of-arithmetic-is a (join-bytes lits made v w), ea) (arithmetic-means lits made k v w lt) }
 
   module _ (ge : 12 ≤ k) where
     pub operates-join : k ≡ 12 → (e : ℕ) → e ≡ join-end p h v w → r ≡ of-join e → Operates p l h t k v w r
@@ -179,18 +190,7 @@ module _ (p l h t : List ℕ) (k : ℕ) (v w : Value) (r : Operated) where
     }
 
     pub operates-flag : (k ≡ 12 → ⊥) → (b : Bool) → b ≡ compared lits made k v w → r ≡ of-flag b → Operates p l h t k v w r
-    unfolding operator-of operated compared
-    operates-flag n b eb er = record {
-      is =
-          rw (er, of-flag-is b (join-bytes lits made v w), eb, le-ltb k 12 ge, ne-eqb k 12 n)
-          (go (eqb k 13) (eqb k 14));
-    }
-      where
-        go : (x y : Bool) → gives (flag (pick x (equal-values lits made v w) (pick y (truth v && truth w) (truth v || truth w))))
-            ≡ operated lits made (pick x Operator.equal (pick y Operator.and Operator.or)) v w
-        go true y = refl
-        go false true = refl
-        go false false = refl
+    operates-flag n b eb er = record { is = rw (er, of-flag-is b (join-bytes lits made v w), eb) (compared-means lits made k v w ge n) }
 
   -- operate_end
   module _ (o : Operates p l h t k v w r) where

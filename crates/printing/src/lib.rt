@@ -23,9 +23,8 @@ pub fn append_number(m: &mut [u8], at: usize, n: u32) -> usize
     ensures appends { λ r. ⌜ Appends (now (m .entry)) at (number n) (now (m .exit)) r ⌝ }
     ensures near { λ r. ⌜ r ≤ at + 11 ⌝ }
 {
-    let d = decimal::digits(n);
-    let bytes = d.bytes;
-    let start = d.start;
+    let mut bytes = [0u8; 11];
+    let start = decimal::digits(&mut bytes, n);
     append(m, at, &bytes[start..])
 }
 

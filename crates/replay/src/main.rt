@@ -147,9 +147,8 @@ fn collect_call(p: &[u32; 16384], h: &mut [u32; 16384], l: &[u8; 8192], t: &[u8;
 
 fn put_integer(n: i32) {
     put(b"look integer ");
-    let d = decimal::decimal(n);
-    let bytes = d.bytes;
-    let start = d.start;
+    let mut bytes = [0u8; 11];
+    let start = decimal::decimal(&mut bytes, n);
     put(&bytes[start..]);
     put(b"\n");
 }

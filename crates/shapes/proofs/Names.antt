@@ -101,8 +101,8 @@ literals-shaped (Token.fixed f ∷ ts) (AllShaped.more t a) k lt = literals-shap
 
 -- ---- A name that is in a table has a number below its length
 
-record Known (table : List (List ℕ)) (w : List ℕ) : Type 0 where
-  below : number-in table w < length table
+pub record Known (table : List (List ℕ)) (w : List ℕ) : Type 0 where
+  pub below : number-in table w < length table
 
 known-first : (v : List ℕ) (vs : List (List ℕ)) (w : List ℕ) → same v w ≡ true → Known (v ∷ vs) w
 unfolding number-in
@@ -121,7 +121,7 @@ known-later v vs w h = record { below = go (same v w) }
     go false = omega (arith, h .below)
 
 -- it is in the table where one of the names is the same
-known-any : (table : List (List ℕ)) (w : List ℕ) → any (same w) table ≡ true → Known table w
+pub known-any : (table : List (List ℕ)) (w : List ℕ) → any (same w) table ≡ true → Known table w
 unfolding any
 known-any [] w e = absurd (false≢true e)
 known-any (v ∷ vs) w e = go (same w v) refl e (λ q. known-any vs w q)

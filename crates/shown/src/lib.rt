@@ -13,8 +13,8 @@ ghost use Rattle.shown.specs.Shown.{shown-size};
 pub fn integer_size(n: i32) -> u32
     ensures { λ r. ⌜ r ≡ length (decimal n) ⌝ }
 {
-    let d = decimal::decimal(n);
-    let start = d.start;
+    let mut bytes = [0u8; 11];
+    let start = decimal::decimal(&mut bytes, n);
     (11 - start) as u32
 }
 
@@ -22,9 +22,8 @@ pub fn integer_size(n: i32) -> u32
 pub fn write_integer(m: &mut [u8], at: usize, n: i32)
     ensures { λ _. ⌜ now (m .exit) ≡ splice (now (m .entry)) at (decimal n) ⌝ }
 {
-    let d = decimal::decimal(n);
-    let bytes = d.bytes;
-    let start = d.start;
+    let mut bytes = [0u8; 11];
+    let start = decimal::decimal(&mut bytes, n);
     splice::write(m, at, &bytes[start..]);
 }
 

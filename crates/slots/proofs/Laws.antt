@@ -126,16 +126,16 @@ name-is s k a p w e = rw e
 -- the slots from a token on
 
 module _ (s : List ℕ) (k a p w : ℕ) (known : k < 29) (before : List (List ℕ)) (d l : ℕ) (us : List Token) where
-  step-closes : closes d k ≡ true → bad-slots before d l (token-of s k a p w ∷ us) ≡ false
+  pub step-closes : closes d k ≡ true → bad-slots before d l (token-of s k a p w ∷ us) ≡ false
   unfolding bad-slots own-slots own-names repeats
   step-closes e = rw (kind-is s a p w k known, e)
 
   module _ (c : closes d k ≡ false) where
-    step-other : names-slot d l k ≡ false → bad-slots before d l (token-of s k a p w ∷ us) ≡ bad-slots before (depth-after d k) k us
+    pub step-other : names-slot d l k ≡ false → bad-slots before d l (token-of s k a p w ∷ us) ≡ bad-slots before (depth-after d k) k us
     unfolding bad-slots own-slots
     step-other e = rw (kind-is s a p w k known, c, e)
 
-    step-slot : names-slot d l k ≡ true → bad-slots before d l (token-of s k a p w ∷ us)
+    pub step-slot : names-slot d l k ≡ true → bad-slots before d l (token-of s k a p w ∷ us)
         ≡ (any (same (part s a p)) before || (ltb 15 (length before) || bad-slots (before ++ (part s a p ∷ [])) (depth-after d k) k us))
     unfolding bad-slots own-slots own-names repeats
     step-slot e = rw (kind-is s a p w k known, c, e, name-is s k a p w (slot-name d l k e))
@@ -156,7 +156,7 @@ collect-start s from b e hb he = record { begins-size = hb; ends-size = he; few 
 ended : (s : List ℕ) (from : ℕ) (r : Bool) → Gives (bad-slots [] 0 0) s from r → BadSlots s from r
 ended s from r g = record { is = λ ts e. sym (g .gives ts e) }
 
-none-left : (before : List (List ℕ)) (d l : ℕ) → bad-slots before d l [] ≡ false
+pub none-left : (before : List (List ℕ)) (d l : ℕ) → bad-slots before d l [] ≡ false
 unfolding bad-slots own-slots own-names repeats
 none-left before d l = refl
 
@@ -318,7 +318,7 @@ pub record Passing (s : List ℕ) (at : ℕ) : Type 0 where
 pub pass-start : (s : List ℕ) → Passing s 0
 pass-start s = record { going = go-start _ s 0 }
 
-decided : (s : List ℕ) (r : Bool) → Gives bad-frames s 0 r → Decides bad-tree s r
+pub decided : (s : List ℕ) (r : Bool) → Gives bad-frames s 0 r → Decides bad-tree s r
 unfolding bad-tree rest
 decided s r g = record { is = λ ts ss e f. sym (g .gives ts e) ∙ tree-bad ts ss (parse-sound (symbols ts) f) }
 

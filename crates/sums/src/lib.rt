@@ -1,4 +1,4 @@
-// Sums over the tokens of a source, all in one reading. What is summed is a number:
+// Sums over the tokens of a source, token by token. What is summed is a number:
 //   0 expressions, 1 instructions, 2 string literals, 3 code literals
 //   4 frames outside code
 //   5 `!`, operators, `self` and `^` outside code
@@ -6,10 +6,7 @@
 //   7 further `^` that name a frame, 8 further `^` above the program frame
 ghost use mathlib.Core.Path.{_≡_};
 ghost use Rattle.sums.specs.Weights.{one-if, closed};
-ghost use Rattle.sums.specs.Totals.{Totalled, Room, UpRoom, nothing, sums-of, Climbs, Counts};
-ghost use Rattle.sweep.specs.Decides.{Short};
-ghost use Rattle.token_cache.specs.Cache.{Cached};
-use token::TokenRead;
+ghost use Rattle.sums.specs.Totals.{Room, UpRoom, nothing, sums-of, Climbs, Counts};
 
 // The nine sums, by what is summed.
 pub struct Totals {
@@ -25,19 +22,19 @@ pub struct Totals {
 }
 
 // The sums and what they depend on: open `{`, open `[` outside code, further `^` of the path.
-struct Tally {
-    expressions: usize,
-    instructions: usize,
-    strings: usize,
-    codes: usize,
-    frames: usize,
-    misplaced: usize,
-    names: usize,
-    named: usize,
-    far: usize,
-    curly: usize,
-    square: usize,
-    further: usize,
+pub struct Tally {
+    pub expressions: usize,
+    pub instructions: usize,
+    pub strings: usize,
+    pub codes: usize,
+    pub frames: usize,
+    pub misplaced: usize,
+    pub names: usize,
+    pub named: usize,
+    pub far: usize,
+    pub curly: usize,
+    pub square: usize,
+    pub further: usize,
 }
 
 // 1 outside code, 0 in code.
@@ -80,7 +77,7 @@ fn up(t: Tally, last: u32) -> Tally
 }
 
 // The tally after a token of kind k, after one of kind last.
-fn count(t: Tally, last: u32, k: u32) -> Tally
+pub fn count(t: Tally, last: u32, k: u32) -> Tally
     requires { ⌜ Room t ⌝ }
     ensures { λ r. ⌜ Counts t last k r ⌝ }
 {
@@ -161,7 +158,7 @@ fn count(t: Tally, last: u32, k: u32) -> Tally
 }
 
 // No token has come.
-fn nothing() -> Tally
+pub fn nothing() -> Tally
     ensures { λ r. ⌜ r ≡ nothing ⌝ }
 {
     Tally {
@@ -181,7 +178,7 @@ fn nothing() -> Tally
 }
 
 // The sums of a tally.
-fn sums_of(t: Tally) -> Totals
+pub fn sums_of(t: Tally) -> Totals
     ensures { λ r. ⌜ r ≡ sums-of t ⌝ }
 {
     Totals {
@@ -195,31 +192,4 @@ fn sums_of(t: Tally) -> Totals
         named: t.named,
         far: t.far,
     }
-}
-
-// The sums over the tokens of a source, in one reading.
-pub fn sum_all(c: &[u64; 16384], s: &[u8]) -> Totals
-    requires short { ⌜ Short (now s) ⌝ }
-    requires cached { ⌜ Cached (now c) (now s) ⌝ }
-    ensures { λ r. ⌜ Totalled (now (s .entry)) r ⌝ }
-{
-    let mut at = 0;
-    let mut t = nothing();
-    let mut last = 0;
-    while at < s.len() {
-        match token_cache::token_in(c, s, at) {
-            TokenRead::End => {
-                return sums_of(t);
-            }
-            TokenRead::NoToken => {
-                return sums_of(t);
-            }
-            TokenRead::Token(k, _begin, end, _word) => {
-                t = count(t, last, k);
-                last = k;
-                at = end;
-            }
-        }
-    }
-    sums_of(t)
 }

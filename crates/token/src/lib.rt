@@ -161,13 +161,12 @@ fn read_at(t: &[u8; 256], s: &[u8], at: usize) -> TokenRead
     if b == 34 {
         return string_at(t, s, at);
     }
-    if b != 45 {
-        return mark_at(s, at);
-    }
-    let d = source::byte_at(s, at + 1);
-    let j = source::class_in(t, d);
-    if j == 3 {
-        return negative_at(t, s, at);
+    if b == 45 {
+        let d = source::byte_at(s, at + 1);
+        let j = source::class_in(t, d);
+        if j == 3 {
+            return negative_at(t, s, at);
+        }
     }
     mark_at(s, at)
 }

@@ -61,8 +61,16 @@ fn write_tokens(s: &[u8]) {
 
 // The number that refuses a source as tokens, or 0.
 fn refused(s: &[u8]) -> u32 {
+    if 16384 < s.len() {
+        return 3;
+    }
     let mut c = [0u64; 16384];
-    scan::check_tokens(&mut c, s)
+    let mut begins = [0usize; 129];
+    let mut ends = [0usize; 129];
+    let mut hints = [0u8; 4096];
+    let mut places = [0usize; 129];
+    let found = survey::survey(&mut c, s, &mut begins, &mut ends, &mut hints, &mut places);
+    found.refusal
 }
 
 fn dump(path: &[u8]) {

@@ -1,4 +1,4 @@
-use Rattle.check_source.proofs.Laws.{source-early, source-six, source-means, kept-not, kept-six, kept-here}
+use Rattle.check_source.proofs.Laws.{source-early, source-six, source-means, kept-not, kept-six, kept-here, found-meaning}
 use borrow.Author.Needs.{needs}
 use Rattle.check_source.proofs.source_refusal.Statement.{statement}
 use Rattle.check_source.proofs.source_refusal.Tie as tie
@@ -6,42 +6,65 @@ use Rattle.check_source.proofs.source_refusal.Reads as reads
 use Rattle.check_source.proofs.source_refusal.Lts as lts
 use Rattle.check_source.proofs.meaning_refusal.Reads as meaning-refusal-reads
 use Rattle.grammar.proofs.one_frame.Reads as one-frame-reads
-use Rattle.names.proofs.keep_names.Reads as keep-names-reads
-use Rattle.scan.proofs.check_tokens.Reads as check-tokens-reads
+use Rattle.survey.proofs.survey.Reads as survey-reads
 
--- src/lib.rt:98:9
-check-tokens-requires : tie.Need-check-tokens-requires
-check-tokens-requires c κs = search needs
+-- src/lib.rt:115:9
+survey-requires : tie.Need-survey-requires
+survey-requires c κs = search needs
 
--- src/lib.rt:100:9
-returns : tie.Need-returns
-returns c = (search source-early, (search needs, search kept-not))
-
--- src/lib.rt:102:8
-one-frame-requires : tie.Need-one-frame-requires
-one-frame-requires c κs = search needs
-
--- src/lib.rt:103:13
-keep-names-requires : tie.Need-keep-names-requires
-keep-names-requires c κs = search needs
-
--- src/lib.rt:105:9
-meaning-refusal-requires : tie.Need-meaning-refusal-requires
-meaning-refusal-requires c κs = search needs
-
--- src/lib.rt:105:9
+-- src/lib.rt:120:9
 same-length : tie.Need-same-length
 same-length c = search needs
 
--- src/lib.rt:105:9
+-- src/lib.rt:120:9
 same-length-2 : tie.Need-same-length-2
 same-length-2 c = search needs
 
--- src/lib.rt:105:9
+-- src/lib.rt:120:9
+same-length-3 : tie.Need-same-length-3
+same-length-3 c = search needs
+
+-- src/lib.rt:120:9
+returns : tie.Need-returns
+returns c = (search source-early, (search needs, search kept-not))
+
+-- src/lib.rt:122:8
+one-frame-requires : tie.Need-one-frame-requires
+one-frame-requires c κs = search needs
+
+-- src/lib.rt:123:9
+meaning-refusal-requires : tie.Need-meaning-refusal-requires
+meaning-refusal-requires c κs = (search needs, search found-meaning)
+
+-- src/lib.rt:123:9
+same-length-4 : tie.Need-same-length-4
+same-length-4 c = search needs
+
+-- src/lib.rt:123:9
+same-length-5 : tie.Need-same-length-5
+same-length-5 c = search needs
+
+-- src/lib.rt:123:9
+same-length-6 : tie.Need-same-length-6
+same-length-6 c = search needs
+
+-- src/lib.rt:123:9
 returns-2 : tie.Need-returns-2
 returns-2 c = (search source-means, (search needs, search kept-here))
 
--- src/lib.rt:82:1
+-- src/lib.rt:95:1
+same-length-7 : tie.Need-same-length-7
+same-length-7 c = search needs
+
+-- src/lib.rt:95:1
+same-length-8 : tie.Need-same-length-8
+same-length-8 c = search needs
+
+-- src/lib.rt:95:1
+same-length-9 : tie.Need-same-length-9
+same-length-9 c = search needs
+
+-- src/lib.rt:95:1
 returns-3 : tie.Need-returns-3
 returns-3 c = (search source-six, (search needs, search kept-six))
 
@@ -49,12 +72,18 @@ pub source-refusal-spec : {M : Type 1} → statement M
 source-refusal-spec =
     tie.close
     (tie.spec
-    check-tokens-requires
-    returns
-    one-frame-requires
-    keep-names-requires
-    meaning-refusal-requires
+    survey-requires
     same-length
     same-length-2
+    same-length-3
+    returns
+    one-frame-requires
+    meaning-refusal-requires
+    same-length-4
+    same-length-5
+    same-length-6
     returns-2
+    same-length-7
+    same-length-8
+    same-length-9
     returns-3)

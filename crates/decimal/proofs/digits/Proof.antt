@@ -1,4 +1,3 @@
-use mathlib.Core.Path.{refl}
 use native.Mathlib.Omega.{arith}
 use borrow.Author.Needs.{needs}
 use Rattle.decimal.proofs.Laws.{Writing, writing-start, writing-again, writing-first}
@@ -6,13 +5,13 @@ use Rattle.decimal.proofs.digits.Statement.{statement}
 use Rattle.decimal.proofs.digits.Tie as tie
 
 abbrev Inv-loop : tie.InvT-loop
-Inv-loop n bytes₀ start₀ m₀ bytes start m = Writing n bytes start m
+Inv-loop bytes₀ n start₀ m₀ bytes start m = Writing n bytes start m
 
 abbrev μ-loop : tie.MeasureT-loop
-μ-loop n bytes₀ start₀ m₀ bytes start m = m
+μ-loop bytes₀ n start₀ m₀ bytes start m = m
 
 loop-holds : tie.Need-loop-holds Inv-loop μ-loop
-loop-holds c = writing-start _ _ (search needs) refl
+loop-holds c = search (writing-start, needs)
 
 loop-again : tie.Need-loop-again Inv-loop μ-loop
 loop-again c = let l = c .before .loop in writing-again (c .before .before .args .n) (l .bytes) (l .start) (l .m) (l .inv) (omega arith)

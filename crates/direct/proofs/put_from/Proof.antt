@@ -5,8 +5,8 @@ use Rattle.direct.proofs.put_from.Tie as tie
 use Rattle.direct.proofs.put_from.Reads as reads
 use Rattle.direct.proofs.put_from.Lts as lts
 use Rattle.direct.proofs.put.Reads as put-reads
-use Rattle.direct.proofs.root.Reads as root-reads
-use Rattle.direct.proofs.set_root.Reads as set-root-reads
+use Rattle.commit.proofs.root.Reads as root-reads
+use Rattle.commit.proofs.set_root.Reads as set-root-reads
 
 -- src/lib.rt:153:9
 set-root-requires : tie.Need-set-root-requires

@@ -5,8 +5,8 @@ use Rattle.direct.proofs.put_join.Tie as tie
 use Rattle.direct.proofs.put_join.Reads as reads
 use Rattle.direct.proofs.put_join.Lts as lts
 use Rattle.commit.proofs.go_on.Reads as go-on-reads
-use Rattle.direct.proofs.root.Reads as root-reads
-use Rattle.direct.proofs.set_root.Reads as set-root-reads
+use Rattle.commit.proofs.root.Reads as root-reads
+use Rattle.commit.proofs.set_root.Reads as set-root-reads
 use Rattle.producing.proofs.join.Reads as join-reads
 use Rattle.puts.proofs.put_slot.Reads as put-slot-reads
 use Rattle.puts.proofs.put_target.Reads as put-target-reads

@@ -8,15 +8,15 @@ use Rattle.emit_paths.proofs.holder.Statement.{statement}
 use Rattle.emit_paths.proofs.holder.Tie as tie
 use Rattle.emit_paths.proofs.holder.Reads as reads
 use Rattle.emit_paths.proofs.holder.Lts as lts
-use Rattle.emit_steps.proofs.one_path_name.Reads as one-path-name-reads
+use Rattle.emit_steps.proofs.one_more.Reads as one-more-reads
 use Rattle.table_updates.proofs.set_path_name.Reads as set-path-name-reads
 use Rattle.words.proofs.wide.Reads as wide-reads
 
 abbrev Inv-loop : tie.InvT-loop
-Inv-loop p₀ levels names m₀ i₀ p m i = Holding names levels m₀ p₀ m p i
+Inv-loop p₀ levels paths names j₀ i₀ p j i = Holding names levels paths p₀ j p i
 
 abbrev μ-loop : tie.MeasureT-loop
-μ-loop p₀ levels names m₀ i₀ p m i = levels - i
+μ-loop p₀ levels paths names j₀ i₀ p j i = levels - i
 
 -- src/lib.rt:69:5
 loop-holds : tie.Need-loop-holds Inv-loop μ-loop
@@ -47,8 +47,8 @@ set-path-name-requires : tie.Need-set-path-name-requires Inv-loop μ-loop
 set-path-name-requires c κs = search needs
 
 -- src/lib.rt:77:9
-one-path-name-requires : tie.Need-one-path-name-requires Inv-loop μ-loop
-one-path-name-requires c κs = search needs
+one-more-requires : tie.Need-one-more-requires Inv-loop μ-loop
+one-more-requires c κs = search needs
 
 -- src/lib.rt:78:9
 add-i : tie.Need-add-i Inv-loop μ-loop
@@ -61,7 +61,7 @@ loop-less c = omega arith
 -- src/lib.rt:69:5
 loop-again : tie.Need-loop-again Inv-loop μ-loop
 loop-again c =
-    holding-again _ _ _ _ _ _ _ (c .before .before .before .before .before .before .before .before .loop .inv) (c .before .before .before .before .before .before .before .loop-test .taken) _ _ (c .before .before .before .before .before .wide .ensures) refl _ (c .before .before .before .set-path-name .ensures) _ (c .one-path-name .ensures)
+    holding-again _ _ _ _ _ _ _ (c .before .before .before .before .before .before .before .before .loop .inv) (c .before .before .before .before .before .before .before .loop-test .taken) _ _ (c .before .before .before .before .before .wide .ensures) refl _ (c .before .before .before .set-path-name .ensures) _ (c .one-more .ensures)
 
 -- src/lib.rt:63:1
 same-length-2 : tie.Need-same-length-2 Inv-loop μ-loop
@@ -84,7 +84,7 @@ holder-spec =
     mul-v
     array-read-v
     set-path-name-requires
-    one-path-name-requires
+    one-more-requires
     add-i
     loop-less
     loop-again

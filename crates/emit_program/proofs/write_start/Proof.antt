@@ -4,7 +4,7 @@ use Rattle.emit_program.proofs.write_start.Statement.{statement}
 use Rattle.emit_program.proofs.write_start.Tie as tie
 use Rattle.emit_program.proofs.write_start.Reads as reads
 use Rattle.emit_program.proofs.write_start.Lts as lts
-use Rattle.emit_names.proofs.number_of.Reads as number-of-reads
+use Rattle.names.proofs.number_of.Reads as number-of-reads
 use Rattle.start_code.proofs.start_code.Reads as start-code-reads
 use Rattle.table_updates.proofs.set_start.Reads as set-start-reads
 

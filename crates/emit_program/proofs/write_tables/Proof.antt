@@ -8,29 +8,23 @@ use Rattle.emit_literals.proofs.write_literals.Reads as write-literals-reads
 use Rattle.emit_program.proofs.write_header.Reads as write-header-reads
 use Rattle.emit_program.proofs.write_tree.Reads as write-tree-reads
 
--- src/lib.rt:84:9
 write-tree-requires : tie.Need-write-tree-requires
 write-tree-requires c κs = search needs
 
--- src/lib.rt:85:9
 write-literals-requires : tie.Need-write-literals-requires
 write-literals-requires c κs = search needs
 
--- src/lib.rt:86:5
 write-header-requires : tie.Need-write-header-requires
-write-header-requires c κs = search needs
+write-header-requires c κs = search (needs, c .before .before .before .before .before .before .before .before .before .before .before .before .before .before .before .before .before .before .pre .0 .0)
 
--- src/lib.rt:71:1
 same-length : tie.Need-same-length
 same-length c = search needs
 
--- src/lib.rt:71:1
 same-length-2 : tie.Need-same-length-2
 same-length-2 c = search needs
 
--- src/lib.rt:71:1
 returns : tie.Need-returns
-returns c = search tables-done
+returns c = search (tables-done, c .before .before .before .before .before .before .before .before .before .before .before .before .before .before .before .before .before .before .before .before .before .pre .0 .1, c .before .before .before .before .before .before .before .before .before .before .before .before .before .before .before .before .before .before .before .before .before .pre .1)
 
 pub write-tables-spec : {M : Type 1} → statement M
 write-tables-spec =

@@ -1,10 +1,11 @@
+use mathlib.Core.Logic.{⊎-elim}
 use native.Mathlib.Omega.{arith}
 use borrow.Author.Needs.{needs}
 use lib.ListN.{length}
 use Prim.Native.Nat.{_+_, _*_, _-_}
 use Rattle.names.specs.Kept.{table-of}
 use Rattle.emit_tree.specs.Members.{slots-emitted, code-emitted, SlotsHere, CodeHere}
-use Rattle.emit_tree.proofs.Bases.{operand-falls, right-falls, binary-falls, binary-falls-2, first-falls, second-falls, third-falls, seen-expression, seen-instruction, operand-done, right-done, block-none, block-falls, block-done, base-block, base-path, base-integer, base-string, negation-done, binary-done, frame-none, frame-falls, frame-done, expression-frame, expression-not, expression-binary, expression-base}
+use Rattle.emit_tree.proofs.Bases.{operand-falls, right-falls, binary-falls, binary-falls-2, first-falls, second-falls, third-falls, seen-expression, seen-instruction, operand-done, right-done, block-none, block-falls, block-done, base-block, base-path, base-integer, base-string, negation-done, binary-done, frame-none, frame-falls, frame-done, expression-frame, expression-not, expression-outside, expression-binary, expression-base}
 use Rattle.emit_tree.proofs.Lists.{Going, slot-falls, slot-done, slots-start, slots-end, slots-other, slots-none, slots-again, show-done, jump-done, ifeq-done, assign-done, instruction-show, instruction-jump, instruction-ifeq, instruction-assign, line-falls, line-done, lines-start, lines-end, lines-none, lines-stuck, lines-again}
 use Prim.Native.Nat.{ℕ, _<_}
 use borrow.Fn.Kinds.{In}
@@ -357,10 +358,10 @@ pub +assigning+base+binary+block+branching+expression+frame+instruction+instruct
     (λ c κs. search needs)
     (λ c κs. (omega arith, search needs))
     (λ c. search needs)
-    (λ c. search (expression-binary, (c .before .before .before .before .before .before .before .before .before .before .before .before .before .before .pre .1 .1)))
+    (λ c. search (expression-binary, (c .before .before .before .before .before .before .before .before .before .before .before .before .before .before .before .pre .1 .1)))
     (λ c κs. (omega arith, search needs))
     (λ c. search needs)
-    (λ c. search (expression-base, (c .before .before .before .before .before .before .before .before .before .before .before .before .before .before .pre .1 .1))))
+    (λ c. ⊎-elim (λ w. search (expression-base, (c .before .before .before .before .before .before .before .before .before .before .before .before .before .pre .1 .1))) (λ w. search (expression-outside, (c .before .before .before .before .before .before .before .before .before .before .before .before .before .pre .1 .1))) (c .before .before .before .before .if3 .came)))
     (λ t. frame-lts.spec
     (open-frame-reads.Asked, open-frame-reads.Learnt, slots-below t, slots.Post, skip-reads.Asked, skip-reads.Learnt)
     (frame-at t)

@@ -1,7 +1,7 @@
 use native.Mathlib.Omega.{arith}
 use borrow.Author.Needs.{needs}
-use Rattle.evaluation.proofs.Laws.{slots-left, evaluate-flat, evaluate-can-fill, evaluate-full, evaluate-falls, evaluate-frame}
-use Rattle.evaluation.proofs.Laws.{Filling, fill-start, fill-size, fill-text-size, fill-done, fill-can-evaluate, fill-full, fill-falls, fill-less, fill-again, base-less, base-again}
+use Rattle.evaluation.proofs.Laws.{slots-left, slots-fall, evaluate-flat, evaluate-can-fill, evaluate-full, evaluate-falls, evaluate-frame}
+use Rattle.evaluation.proofs.Laws.{Filling, fill-start, fill-size, fill-text-size, fill-done, fill-can-evaluate, fill-full, fill-falls, fill-again, base-again}
 use Prim.Native.Nat.{ℕ, _<_, _-_, _*_}
 use borrow.Fn.Kinds.{In}
 use borrow.Fn.PlainCycle.{Measures, is, falls, and}
@@ -112,7 +112,7 @@ fill-slot-after-requires : (t : ℕ) → fill-lts.Need-slot-after-requires (fill
 fill-slot-after-requires t c κs = search needs
 
 fill-loop-less : (t : ℕ) → fill-lts.Need-loop-less (fill-calls t) (fill-at t) fill.Post fill-Inv-loop fill-μ-loop
-fill-loop-less t c = search base-less
+fill-loop-less t c = search slots-fall
 
 fill-loop-again : (t : ℕ) → fill-lts.Need-loop-again (fill-calls t) (fill-at t) fill.Post fill-Inv-loop fill-μ-loop
 fill-loop-again t c = search base-again
@@ -130,7 +130,7 @@ fill-slot-after-requires-2 : (t : ℕ) → fill-lts.Need-slot-after-requires-2 (
 fill-slot-after-requires-2 t c κs = search needs
 
 fill-loop-less-2 : (t : ℕ) → fill-lts.Need-loop-less-2 (fill-calls t) (fill-at t) fill.Post fill-Inv-loop fill-μ-loop
-fill-loop-less-2 t c = fill-less _ _ _ _ _ _ _ _ _ _ _ (c .before .before .before .before .before .before .before .before .before .before .before .before .before .before .before .before .loop .inv) (c .before .before .before .before .before .before .before .before .before .before .before .before .before .before .before .loop-test .taken) _ _ _ (c .before .before .before .before .before .before .before .before .before .before .evaluate .ensures) _ (c .before .before .before .before .slot-name2 .ensures) _ (c .before .before .before .add-slot2 .ensures) _ (c .slot-after2 .ensures)
+fill-loop-less-2 t c = search slots-fall
 
 fill-loop-again-2 : (t : ℕ) → fill-lts.Need-loop-again-2 (fill-calls t) (fill-at t) fill.Post fill-Inv-loop fill-μ-loop
 fill-loop-again-2 t c = fill-again _ _ _ _ _ _ _ _ _ _ _ (c .before .before .before .before .before .before .before .before .before .before .before .before .before .before .before .before .loop .inv) (c .before .before .before .before .before .before .before .before .before .before .before .before .before .before .before .loop-test .taken) _ _ _ (c .before .before .before .before .before .before .before .before .before .before .evaluate .ensures) _ (c .before .before .before .before .slot-name2 .ensures) _ (c .before .before .before .add-slot2 .ensures) _ (c .slot-after2 .ensures)

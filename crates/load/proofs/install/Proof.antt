@@ -9,41 +9,41 @@ use Rattle.clearing.proofs.clear_words.Reads as clear-words-reads
 use Rattle.emit_program.proofs.emit.Reads as emit-reads
 use Rattle.start_state.proofs.start.Reads as start-reads
 
--- src/lib.rt:19:5
+-- src/lib.rt:30:5
 emit-requires : tie.Need-emit-requires
-emit-requires c κs = (search needs, (search needs, search install-can-emit))
+emit-requires c κs = (search needs, (search needs, (search needs, (search needs, search install-can-emit))))
 
--- src/lib.rt:20:5
+-- src/lib.rt:33:5
 clear-words-requires : tie.Need-clear-words-requires
 clear-words-requires c κs = search needs
 
--- src/lib.rt:21:5
+-- src/lib.rt:34:5
 clear-bytes-requires : tie.Need-clear-bytes-requires
 clear-bytes-requires c κs = search needs
 
--- src/lib.rt:22:5
+-- src/lib.rt:35:5
 start-requires : tie.Need-start-requires
 start-requires c κs = search install-can-start
 
--- src/lib.rt:7:1
+-- src/lib.rt:9:1
 same-length : tie.Need-same-length
 same-length c = search needs
 
--- src/lib.rt:7:1
+-- src/lib.rt:9:1
 same-length-2 : tie.Need-same-length-2
 same-length-2 c = search needs
 
--- src/lib.rt:7:1
+-- src/lib.rt:9:1
 same-length-3 : tie.Need-same-length-3
 same-length-3 c = search needs
 
--- src/lib.rt:7:1
+-- src/lib.rt:9:1
 same-length-4 : tie.Need-same-length-4
 same-length-4 c = search needs
 
--- src/lib.rt:7:1
+-- src/lib.rt:9:1
 returns : tie.Need-returns
-returns c = search (install-done, c .before .before .before .before .before .before .before .before .before .before .before .before .before .before .before .before .before .before .before .before .before .before .before .before .before .before .before .before .before .before .before .pre .1 .1)
+returns c = search (install-done, c .before .before .before .before .before .before .before .before .before .before .before .before .before .before .before .before .before .before .before .before .before .before .before .before .before .before .before .before .before .before .before .before .pre .1 .1)
 
 pub install-spec : {M : Type 1} → statement M
 install-spec =

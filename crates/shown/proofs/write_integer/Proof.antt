@@ -4,9 +4,7 @@ use Rattle.shown.proofs.write_integer.Statement.{statement}
 use Rattle.shown.proofs.write_integer.Tie as tie
 
 returns : tie.Need-returns
-returns c =
-    let d = c .before .before .before .before .before .before .before .decimal in
-    digits-written _ _ (d .result .bytes) (d .result .start) (d .ensures) (search needs) _ _ _ (c .before .before .write .ensures)
+returns c = search (digits-written, needs)
 
 pub write-integer-spec : {M : Type 1} → statement M
 write-integer-spec =

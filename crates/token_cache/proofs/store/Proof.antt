@@ -1,16 +1,16 @@
-use Rattle.token_cache.proofs.Laws.{fits, stored}
+use Rattle.token_cache.proofs.Laws.{fits, stored, stored-notes, notes-same}
 use borrow.Author.Needs.{needs}
 use Rattle.token_cache.proofs.store.Statement.{statement}
 use Rattle.token_cache.proofs.store.Tie as tie
 
 returns : tie.Need-returns
-returns c = search needs
+returns c = search (needs, notes-same)
 
 returns-2 : tie.Need-returns-2
-returns-2 c = search needs
+returns-2 c = search (needs, notes-same)
 
 returns-3 : tie.Need-returns-3
-returns-3 c = search needs
+returns-3 c = search (needs, notes-same)
 
 pack-requires : tie.Need-pack-requires
 pack-requires c κs = search fits
@@ -22,7 +22,7 @@ element-write-c : tie.Need-element-write-c
 element-write-c c = search needs
 
 returns-4 : tie.Need-returns-4
-returns-4 c = search (stored, fits)
+returns-4 c = search (stored, stored-notes, fits)
 
 pub store-spec : {M : Type 1} → statement M
 store-spec =

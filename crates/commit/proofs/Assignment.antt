@@ -1,0 +1,78 @@
+-- `:=` from self or from the program: its entry by its kind, and what that says. Assumes nothing.
+use Prim.Native.Nat.{ℕ, zero, suc, _≤_, _<_}
+use mathlib.Core.Path.{_≡_, sym, subst}
+use mathlib.Core.Bool.{Bool, true, false}
+use mathlib.Core.List.{List}
+use native.Mathlib.Omega.{arith}
+use lib.Dec.{eqb}
+use borrow.Author.Tests.{ne-eqb}
+use Rattle.framed.specs.Tree.{Instruction}
+use Rattle.tables.specs.declared.InstructionEntry.{InstructionEntry}
+use Rattle.tables.specs.Entries.{instruction-of, instruction-at}
+use Rattle.tables.specs.Fields.{expressions, instructions, instruction-kind, instruction-a, instruction-b, instruction-c, instruction-after}
+use Rattle.program_entries.specs.Form.{InstructionForm}
+use Rattle.program_form.specs.WellFormed.{WellFormed}
+use Rattle.trees.specs.Trees.{path-list}
+use Rattle.trees.specs.Held as trees
+use Rattle.trees.proofs.Held.{assign-self-held, assign-program-held}
+use Rattle.commit.specs.Commit.{path-of, assignment, position-by, position-after}
+
+-- of kinds 0 and 1
+pub assignment-entry : (p : List ℕ) (i k : ℕ) → k ≡ instruction-kind p i → k < 2
+    → assignment (eqb k 0) (instruction-a p i) (instruction-b p i) (instruction-c p i) ≡ instruction-at p i
+unfolding assignment instruction-at instruction-of
+assignment-entry p i zero ek lt = rw (← ek)
+assignment-entry p i (suc zero) ek lt = rw (← ek)
+assignment-entry p i (suc (suc k)) ek lt = absurd (omega arith)
+
+-- and of no other
+abbrev Other : InstructionEntry → Type 0
+Other (InstructionEntry.AssignSelf j n x) = ⊥
+Other (InstructionEntry.AssignProgram j n x) = ⊥
+Other (InstructionEntry.Show a) = Unit
+Other (InstructionEntry.Jump a c) = Unit
+Other (InstructionEntry.Ifeq a c d) = Unit
+Other InstructionEntry.Bad = Unit
+
+other-kind : (k a b c : ℕ) → 2 ≤ k → Other (instruction-of k a b c)
+unfolding instruction-of
+other-kind zero a b c le = absurd (omega arith)
+other-kind (suc zero) a b c le = absurd (omega arith)
+other-kind (suc (suc zero)) a b c le = tt
+other-kind (suc (suc (suc zero))) a b c le = tt
+other-kind (suc (suc (suc (suc zero)))) a b c le = tt
+other-kind (suc (suc (suc (suc (suc k))))) a b c le = high (suc (suc (suc (suc (suc k))))) (omega arith)
+  where
+    high : (n : ℕ) → 5 ≤ n → Other (instruction-of n a b c)
+    high n ge = rw (ne-eqb n 0 (λ q. omega arith), ne-eqb n 1 (λ q. omega arith), ne-eqb n 2 (λ q. omega arith), ne-eqb n 3 (λ q. omega arith), ne-eqb n 4 (λ q. omega arith)) tt
+
+not-other : (own : Bool) (j n x : ℕ) → Other (assignment own j n x) → ⊥
+unfolding assignment
+not-other true j n x o = o
+not-other false j n x o = o
+
+pub no-assignment : (p : List ℕ) (i k : ℕ) → k ≡ instruction-kind p i → 2 ≤ k → (own : Bool) (j n x : ℕ) → assignment own j n x ≡ instruction-at p i → ⊥
+unfolding instruction-at
+no-assignment p i k ek ge own j n x at =
+    not-other own j n x (subst Other (sym at) (other-kind (instruction-kind p i) (instruction-a p i) (instruction-b p i) (instruction-c p i) (rw ek at ge)))
+
+-- ---- What it says
+
+module _ (p l : List ℕ) (w : WellFormed p l) (i : ℕ) (there : i < instructions p) where
+  form : InstructionForm p i
+  form = w .entries .instruction i there
+
+  pub assignment-tree : (own : Bool) (j n x : ℕ) → assignment own j n x ≡ instruction-at p i → trees.instruction-held p i ≡ Instruction.assign (path-of own (path-list p n j)) (trees.expression-held p x)
+  unfolding assignment path-of
+  assignment-tree true j n x at = assign-self-held p l w i there j n x (sym at)
+  assignment-tree false j n x at = assign-program-held p l w i there j n x (sym at)
+
+  pub assignment-there : (own : Bool) (j n x : ℕ) → assignment own j n x ≡ instruction-at p i → x < expressions p
+  unfolding assignment
+  assignment-there true j n x at = form .self-there j n x (sym at)
+  assignment-there false j n x at = form .program-there j n x (sym at)
+
+pub assignment-place : (p h : List ℕ) (i : ℕ) (own : Bool) (j n x : ℕ) → assignment own j n x ≡ instruction-at p i → instruction-after p i ≡ position-after p h i
+unfolding assignment position-after position-by
+assignment-place p h i true j n x at = rw (← at)
+assignment-place p h i false j n x at = rw (← at)

@@ -1,0 +1,55 @@
+use mathlib.Core.Logic.{⊎-elim}
+use Rattle.survey.proofs.Laws.{take-few, take-marked, take-numbered, take-small, take-store, taken-name, taken-many, taken-other}
+use borrow.Author.Needs.{needs}
+use Rattle.survey.proofs.take.Statement.{statement}
+use Rattle.survey.proofs.take.Tie as tie
+use Rattle.survey.proofs.take.Reads as reads
+use Rattle.survey.proofs.take.Lts as lts
+use Rattle.names.proofs.number.Reads as number-reads
+use Rattle.token_cache.proofs.store.Reads as store-reads
+use Rattle.token_cache.proofs.store_name.Reads as store-name-reads
+
+-- src/lib.rt:42:17
+number-requires : tie.Need-number-requires
+number-requires c κs = (search take-few, (search take-marked, search take-numbered))
+
+-- src/lib.rt:43:56
+add-store-name : tie.Need-add-store-name
+add-store-name c = search (take-small, needs)
+
+-- src/lib.rt:43:13
+store-name-requires : tie.Need-store-name-requires
+store-name-requires c κs = search take-store
+
+-- src/lib.rt:44:13
+same-length : tie.Need-same-length
+same-length c = search needs
+
+-- src/lib.rt:44:13
+same-length-2 : tie.Need-same-length-2
+same-length-2 c = search needs
+
+-- src/lib.rt:44:13
+returns : tie.Need-returns
+returns c = (search needs, search taken-name)
+
+-- src/lib.rt:47:5
+store-requires : tie.Need-store-requires
+store-requires c κs = search needs
+
+-- src/lib.rt:23:1
+returns-2 : tie.Need-returns-2
+returns-2 c = (search needs, ⊎-elim (λ w. search taken-many) (λ w. search taken-other) (c .before .before .if1 .came))
+
+pub take-spec : {M : Type 1} → statement M
+take-spec =
+    tie.close
+    (tie.spec
+    number-requires
+    add-store-name
+    store-name-requires
+    same-length
+    same-length-2
+    returns
+    store-requires
+    returns-2)
