@@ -4,9 +4,8 @@ use mathlib.Core.Path.{_≡_, refl, _∙_, ap, sym}
 use mathlib.Core.List.{List, [], _∷_}
 use mathlib.Core.Bool.{Bool, true, false}
 use native.Mathlib.Omega.{arith}
-use native.Mathlib.Decide.{decLe}
 use lib.Dec.{eqb}
-use lib.ListN.{length, getD}
+use lib.ListN.{length}
 use types.Run.{OneOf, miss}
 use denote.Enum.Declared.{tagOf}
 use borrow.Author.Tests.{le-leb, lt-leb}
@@ -21,11 +20,9 @@ use Rattle.tables.specs.declared.InstructionEntry.{InstructionEntry}
 use Rattle.tables.specs.Entries.{instruction-at}
 use Rattle.tables.specs.Fields.{codes, code-first, instructions, instruction-kind, instruction-a, instruction-b, instruction-c, instruction-after}
 use Rattle.program_entries.specs.Form.{InstructionForm}
-use Rattle.program_form.specs.Sound.{Sound}
-use Rattle.program_form.proofs.Decides.{sound}
 use Rattle.trees.specs.Trees.{path-list}
 use Rattle.trees.specs.Held as trees
-use Rattle.trees.specs.Held.{remaining, list-from, OneLevel}
+use Rattle.trees.specs.Held.{remaining}
 use Rattle.trees.proofs.Held.{show-held, jump-held, ifeq-held}
 use Rattle.heap.specs.Words.{self-held, program-held, position, set-self, set-program, set-position}
 use Rattle.heap.specs.Held.{frames-held}
@@ -37,16 +34,16 @@ use Rattle.paths.specs.Paths.{fetched, path-held}
 use Rattle.puts.specs.Puts.{targeted, target-along, put-slot}
 use Rattle.operands.specs.Operands.{operand-value}
 use Rattle.operands.proofs.Lists.{same-path}
-use Rattle.bounded.specs.Check.{Target, target, Jump, jump-result}
+use Rattle.bounded.specs.Check.{Target, Jump, jump-result}
 use Rattle.bounded.specs.Bounded.{Bounded, Produced, evaluate, value-given, over-store, assign-at, commit-assign, commit-jump, commit, heap-in, goes-on}
 use Rattle.word_store.specs.Store.{Memories, word-store}
-use Rattle.word_store.specs.State.{store-held, state-held, with-self, with-program, with-remaining, HeldAfter}
+use Rattle.word_store.specs.State.{store-held, state-held, with-self, with-program, with-remaining}
 use Rattle.word_store.proofs.Updates.{held-after}
-use Rattle.producing.specs.Producing.{HeaderKept, Leaves, made}
+use Rattle.producing.specs.Producing.{HeaderKept}
 use Rattle.evaluation.specs.Evaluation.{strings, CanEvaluate, Evaluates}
-use Rattle.evaluation.proofs.Stores.{frames-are, self-kept, program-kept}
+use Rattle.evaluation.proofs.Stores.{frames-are}
 use Rattle.evaluation.proofs.Fits.{operand-fits}
-use Rattle.commit.specs.Commit.{put-at, put-along, root-of, set-root, path-of, state-of, HeaderStays, Assigns, first-place, code-place, place-to, jump-place, CanJump, Jumps, assignment, position-by, position-after, CanCommit, Commits}
+use Rattle.commit.specs.Commit.{put-at, put-along, root-of, set-root, path-of, state-of, Assigns, first-place, code-place, place-to, jump-place, CanJump, Jumps, assignment, position-by, position-after, CanCommit, Commits}
 use Rattle.commit.proofs.Assignment.{assignment-entry, no-assignment, assignment-tree, assignment-there, assignment-place}
 use Rattle.commit.proofs.Places.{code-at, place-small, after-small}
 use Rattle.commit.proofs.Headers.{kept-state, kept-stays, stays-both, self-stays, program-stays, position-stays, self-size, program-size, position-size, put-store, put-header, put-size}

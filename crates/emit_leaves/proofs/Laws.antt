@@ -39,7 +39,7 @@ use Rattle.emit_names.specs.Table.{NumberAt}
 use Rattle.ints.specs.Ints.{word-of}
 use Rattle.tables.specs.declared.ExpressionEntry.{ExpressionEntry}
 use Rattle.tables.specs.declared.InstructionEntry.{InstructionEntry}
-use Rattle.table_updates.specs.Updates.{set-expression, set-instruction, set-code-first, set-slot-name, set-slot-link, set-instruction-link}
+use Rattle.table_updates.specs.Updates.{set-expression, set-instruction, set-code-first, set-slot-link, set-instruction-link}
 use Rattle.shapes.specs.Numbers.{Numbers, base-size, code-size}
 use Rattle.emission.specs.Emit.{Emitting, emitting, emit-path, emit-base, emit-expression, assign-entry, operator-kind, link-to-slots, link-to-code, first-place}
 use Rattle.emit_steps.specs.Steps.{numbers, go-to, one-more, take-string, take-code, place-of, first-kind, Pass, PassTwo}

@@ -1,6 +1,6 @@
 -- docs/LAYOUT.md, program words, names: the names kept of a source, and the number of a name. Assumes nothing.
 use mathlib.Core.Path.{_≡_}
-use mathlib.Core.List.{List, [], _∷_}
+use mathlib.Core.List.{List, _∷_}
 use Prim.Native.Nat.{ℕ}
 use lib.ListN.{length}
 use Rattle.framed.specs.Bytes.{class}

@@ -1,6 +1,6 @@
 -- docs/LAYOUT.md, program words: what a function that reads a part of the source and emits it leaves, for every such part as the grammar has it. Assumes nothing.
 use mathlib.Core.Path.{_≡_}
-use mathlib.Core.List.{List, [], _∷_}
+use mathlib.Core.List.{List, _∷_}
 use Prim.Native.Nat.{ℕ, _+_, _-_, _<_, _≤_}
 use lib.ListN.{length, take}
 use Rattle.framed.specs.Bytes.{class}

@@ -1,17 +1,16 @@
 -- Laws of the steps, one for each way through each function. Assumes nothing.
 use mathlib.Core.Path.{_≡_, refl, sym, ap, _∙_}
-use mathlib.Core.Bool.{Bool, true, false}
+use mathlib.Core.Bool.{true, false}
 use mathlib.Core.List.{List, [], _∷_}
-use Prim.Native.Nat.{ℕ, zero, suc, _+_, _-_, _<_, _≤_}
+use Prim.Native.Nat.{ℕ, _+_, _<_, _≤_}
 use native.Mathlib.Omega.{arith}
-use lib.Dec.{ltb}
-use lib.ListN.{length, take, set}
+use lib.ListN.{length, set}
 use types.Run.{OneOf, miss}
 use denote.Enum.Declared.{tagOf}
 use borrow.Author.Tests.{lt-ltb, le-ltb}
 use Rattle.framed.specs.Common.{if_then_else_}
 use Rattle.framed.specs.Bytes.{class}
-use Rattle.framed.specs.Tokens.{Token, Tokens⊢, end, no-token, token, next}
+use Rattle.framed.specs.Tokens.{Token, Tokens⊢, end, token, next}
 use Rattle.framed.proofs.TokensExact.{end≢token, no-token≢token, rest-inj}
 use Rattle.source.specs.Positions.{rest}
 use Rattle.token.specs.Reading.{token-of, token-kind, meant, TokenAt, Spot}

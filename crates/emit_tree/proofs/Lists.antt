@@ -5,14 +5,12 @@ use Prim.Native.Nat.{ℕ, suc, _+_, _*_, _-_, _<_, _≤_}
 use native.Mathlib.Omega.{arith}
 use lib.ListN.{length}
 use Rattle.framed.specs.Bytes.{class}
-use Rattle.framed.specs.Tokens.{Token, Fixed, Tokens⊢, next, read, skip, end}
+use Rattle.framed.specs.Tokens.{Token, Fixed, Tokens⊢, next, end}
 use Rattle.framed.specs.Symbols.{Symbol}
 use Rattle.framed.specs.Tree.{Written, Base, Expression, Slots, Instruction, Code, _then_}
 use Rattle.framed.specs.Grammar.{Path⊢, Base⊢, Expression⊢, Slots⊢, Instruction⊢, Code⊢}
 use Rattle.framed.specs.Paths.{Path, within-slot, resolve-expression, resolve-slots, resolve-instruction, resolve-code}
-use Rattle.framed.proofs.TokensExact.{end≢token}
 use Rattle.source.specs.Positions.{rest}
-use Rattle.source.proofs.Positions.{rest-end}
 use Rattle.token.specs.Reading.{fixed-kind, token-kind}
 use Rattle.sweep.specs.Kinds.{kind-of, front-kind}
 use Rattle.grammar.specs.Runs.{KindAt, Sees}
@@ -25,7 +23,6 @@ use Rattle.emission.specs.Emit.{Emitting, emitting, emit-expression, emit-slots
 use Rattle.emit_steps.specs.Steps.{numbers, go-to, take-instruction, place-of, inner-slot, first-kind, Pass, PassTwo}
 use Rattle.emit_steps.specs.declared.Next.{Next}
 use Rattle.emit_steps.specs.declared.Place.{Place}
-use Rattle.emit_steps.proofs.Laws.{first-token}
 use Rattle.emit_paths.specs.Emits.{Ahead, Small, Emitted, Emits}
 use Rattle.emit_paths.proofs.Symbols.{past-end, fixed-first, name-first, pass-fixed, seen-name, seen-kind, seen-two, number-ahead, kind-ahead}
 use Rattle.emit_leaves.specs.declared.Stand.{Stand}

@@ -10,7 +10,7 @@ use Rattle.tables.specs.Entries.{expression-at}
 use Rattle.tables.specs.Fields.{expressions}
 use Rattle.program_form.specs.Sound.{SlotPlace}
 use Rattle.trees.specs.Held as trees
-use Rattle.heap.specs.Words.{self-held, program-held, take-frame}
+use Rattle.heap.specs.Words.{self-held, program-held}
 use Rattle.heap.specs.Closed.{ValueFits, FrameInUse}
 use Rattle.allocation.specs.Allocation.{next-frame}
 use Rattle.bounded.specs.Bounded.{evaluate, fill}

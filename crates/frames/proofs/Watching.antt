@@ -12,7 +12,6 @@ use borrow.Author.Tests.{ne-eqb, le-ltb, eqb-true, eqb-false, ltb-true, ltb-fals
 use Rattle.framed.specs.Common.{if_then_else_, any, same, member}
 use Rattle.framed.specs.Bytes.{class}
 use Rattle.framed.specs.Tokens.{Token}
-use Rattle.framed.specs.Symbols.{number-in}
 use Rattle.source.specs.Positions.{part}
 use Rattle.words.specs.Words.{word, set-word}
 use Rattle.words.proofs.Laws.{word-same, word-other, set-size}
@@ -25,7 +24,8 @@ use Rattle.shapes.proofs.Names.{same-equal}
 use Rattle.sweep.specs.Decides.{Decides}
 use Rattle.sweep.proofs.Lists.{any-last}
 use Rattle.sweep.proofs.Loop.{Going, Gives, go-start, go-end, go-none, go-done, go-again}
-use Rattle.names.specs.Kept.{table-of, Numbered}
+use Rattle.names.specs.Kept.{Numbered}
+use Rattle.names.proofs.Numbers.{apart}
 use Rattle.slots.specs.Own.{closes, names-slot, own-slots, bad-slots, bad-frames, bad-tree}
 use Rattle.slots.proofs.Laws.{slot-name, step-closes, step-other, step-slot, none-left, decided}
 use Rattle.frames.specs.Levels.{level, Levels, levels, is-added, added, opened, watched, Watches, Extends, Named}
@@ -231,14 +231,11 @@ module _ (s b e own b' e' own' : List ℕ) where
 
 -- names that are kept are the same where their numbers are
 module _ (s b e : List ℕ) (n : ℕ) (z : Numbered s b e n) where
-  apart : (i j : ℕ) → i < n → j < n → name-of s b e i ≡ name-of s b e j → i ≡ j
-  apart i j h g x = sym (z .own i h) ∙ ap (number-in (table-of s b e n)) x ∙ z .own j g
-
   other-name : (i j : ℕ) → i < n → j < n → eqb i j ≡ false → same (name-of s b e i) (name-of s b e j) ≡ false
   other-name i j h g x = go (same (name-of s b e i) (name-of s b e j)) refl
     where
       go : (t : Bool) → same (name-of s b e i) (name-of s b e j) ≡ t → t ≡ false
-      go true y = absurd (eqb-false i j x (apart i j h g (same-equal (name-of s b e i) (name-of s b e j) y)))
+      go true y = absurd (eqb-false i j x (apart s b e n z i j h g (same-equal (name-of s b e i) (name-of s b e j) y)))
       go false y = refl
 
   -- a name that a level does not have

@@ -2,7 +2,7 @@
 use mathlib.Core.Path.{_≡_, refl, sym, ap, _∙_}
 use mathlib.Core.List.{List, [], _∷_}
 use mathlib.Core.Option.{none}
-use Prim.Native.Nat.{ℕ, suc, _-_, _<_, _≤_}
+use Prim.Native.Nat.{ℕ, suc, _<_, _≤_}
 use native.Mathlib.Omega.{arith}
 use lib.IntN.{ℤ}
 use lib.ListN.{length}
@@ -28,7 +28,6 @@ use Rattle.sweep.proofs.Numbered.{operator-range, fixed-below}
 use Rattle.sweep.specs.Kinds.{kind-of, front-kind}
 use Rattle.grammar.specs.Runs.{Outcome, Runs, Any, Moved, KindAt, Front, Expects, KindsOk, Sees}
 use Rattle.grammar.specs.declared.Found.{Found}
-use Rattle.grammar.specs.declared.Seen.{Seen}
 
 -- ---- Readers one after the other, one or the other
 

@@ -165,11 +165,3 @@ module _ {s b e hints : List ℕ} {n a p : ℕ} {b' e' hints' : List ℕ} {r : �
       go : (t : Bool) → b' ≡ (if t then set-word b n a else b) → e' ≡ (if t then set-word e n p else e) → (word b' j ≡ word b j) × (word e' j ≡ word e j)
       go true eb ee = (rw eb (word-other b n j a (word b j) less refl), rw ee (word-other e n j p (word e j) less refl))
       go false eb ee = (rw eb, rw ee)
-
--- what keeps a token of kind k that is a name
-module _ (s b e hints : List ℕ) (n k a p : ℕ) (h : k ≡ 25) (b' e' hints' : List ℕ) (r : ℕ) (x : KeptAs s b e hints n a p b' e' hints' r) where
-  pub keep-new : r ≡ n → Noted s b e hints n k a p b' e' hints' (n + 1)
-  keep-new q = rw h (kept-noted x (rw (eq-eqb r n q)))
-
-  pub keep-known : (r ≡ n → ⊥) → Noted s b e hints n k a p b' e' hints' n
-  keep-known q = rw h (kept-noted x (rw (ne-eqb r n q)))

@@ -112,7 +112,7 @@ step-is high n t (some ts) = rw (max-three high n (highest-nesting (open-after n
     max-three : (a b c : ℕ) → max a (max b c) ≡ max (max a b) c
     max-three a b c = omega arith
 
-depth-small : (n k : ℕ) → depth-after n k ≤ n + 1
+pub depth-small : (n k : ℕ) → depth-after n k ≤ n + 1
 unfolding depth-after
 depth-small n k = go (eqb k 12) (eqb k 14) (eqb k 13) (eqb k 15)
   where

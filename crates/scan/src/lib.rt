@@ -1,18 +1,12 @@
 // Nesting: how deep brackets are open, and number 5.
 ghost use mathlib.Core.Path.{_≡_};
-ghost use Prim.Native.Nat.{_-_, max};
+ghost use Prim.Native.Nat.{max};
 ghost use Rattle.scan.specs.Scan.{depth-after, last-refusal, NotHuge};
 
 pub fn larger(a: usize, b: usize) -> usize
     ensures { λ r. ⌜ r ≡ max a b ⌝ }
 {
     if a < b { b } else { a }
-}
-
-fn one_less(n: usize) -> usize
-    ensures { λ r. ⌜ r ≡ n - 1 ⌝ }
-{
-    if n == 0 { 0 } else { n - 1 }
 }
 
 // How many are open after a token of kind k.
@@ -27,10 +21,10 @@ pub fn depth_after(n: usize, k: u32) -> usize
         return n + 1;
     }
     if k == 13 {
-        return one_less(n);
+        return sweep::one_less(n);
     }
     if k == 15 {
-        return one_less(n);
+        return sweep::one_less(n);
     }
     n
 }

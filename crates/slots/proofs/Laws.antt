@@ -21,12 +21,12 @@ use Rattle.token.specs.declared.TokenRead.{TokenRead}
 use Rattle.token.proofs.KindNumbers.{kind-is}
 use Rattle.token.proofs.Answers.{spot-of, tokens-at-token}
 use Rattle.scan.specs.Scan.{depth-after, NotHuge}
-use Rattle.scan.proofs.Laws.{no-bracket}
+use Rattle.scan.proofs.Laws.{no-bracket, depth-small}
 use Rattle.sweep.specs.Decides.{Decides}
 use Rattle.sweep.proofs.Loop.{over, Going, Gives, go-start, go-end, go-none, go-done, go-again, go-early}
 use Rattle.names.specs.Kept.{table-of}
 use Rattle.names.proofs.Laws.{table-length, table-more}
-use Rattle.slots.specs.Own.{closes, names-slot, plain, own-slots, own-names, repeats, bytes-of, bad-slots, bad-frames, Added, BadSlots, OpensBad, bad-tree}
+use Rattle.slots.specs.Own.{closes, names-slot, plain, own-slots, own-names, repeats, bytes-of, bad-slots, bad-frames, Added, BadSlots, bad-tree}
 use Rattle.slots.specs.Checks.{frames-bad, Clear, clear-after, Checks, Opens}
 use Rattle.slots.specs.declared.Checked.{Checked}
 use Rattle.slots.proofs.Bad.{tree-bad}
@@ -94,17 +94,6 @@ module _ (k : ℕ) where
     plain-depth : (d : ℕ) → d ≡ depth-after d k
     unfolding plain
     plain-depth d = no-bracket d k (plain-not 12 refl) (plain-not 14 refl) (plain-not 13 refl) (plain-not 15 refl)
-
-pub depth-small : (n k : ℕ) → depth-after n k ≤ n + 1
-unfolding depth-after
-depth-small n k = go (eqb k 12) (eqb k 14) (eqb k 13) (eqb k 15)
-  where
-    go : (t u v w : Bool) → (if t then n + 1 else if u then n + 1 else if v then n - 1 else if w then n - 1 else n) ≤ n + 1
-    go true u v w = omega arith
-    go false true v w = omega arith
-    go false false true w = omega arith
-    go false false false true = omega arith
-    go false false false false = omega arith
 
 module _ (s b e : List ℕ) (n a p : ℕ) (slot : Bool) where
   pub repeated-slot : slot ≡ true → (r : Bool) → r ≡ any (same (part s a p)) (table-of s b e n) → r ≡ (slot && any (same (part s a p)) (table-of s b e n))

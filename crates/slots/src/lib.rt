@@ -3,7 +3,7 @@ ghost use mathlib.Core.Path.{_≡_};
 ghost use mathlib.Core.Bool.{_&&_};
 ghost use Rattle.framed.specs.Common.{any, same};
 ghost use Rattle.source.specs.Positions.{part};
-ghost use Rattle.scan.specs.Scan.{depth-after, NotHuge};
+ghost use Rattle.scan.specs.Scan.{NotHuge};
 ghost use Rattle.sweep.specs.Decides.{Decides};
 ghost use Rattle.token_cache.specs.Cache.{Cached};
 ghost use Rattle.names.specs.Kept.{table-of};
@@ -35,26 +35,6 @@ pub fn names_slot(depth: usize, last: u32, k: u32) -> bool
         return false;
     }
     depth == 0
-}
-
-// How many brackets are open in the frame after a token of kind k.
-pub fn depth_after(depth: usize, k: u32) -> usize
-    requires { ⌜ NotHuge depth ⌝ }
-    ensures { λ r. ⌜ r ≡ depth-after depth k ⌝ }
-{
-    if k == 12 {
-        return depth + 1;
-    }
-    if k == 14 {
-        return depth + 1;
-    }
-    if k == 13 {
-        return sweep::one_less(depth);
-    }
-    if k == 15 {
-        return sweep::one_less(depth);
-    }
-    depth
 }
 
 // A token of kind k is neither a bracket nor a name.
@@ -166,7 +146,7 @@ fn bad_slots(c: &[u64; 16384], s: &[u8], from: usize) -> Checked
                     return Checked { bad: true, clear };
                 }
                 clear = clear_after(clear, at, k, end);
-                depth = depth_after(depth, k);
+                depth = scan::depth_after(depth, k);
                 last = k;
                 at = end;
             }

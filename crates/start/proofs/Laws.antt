@@ -3,7 +3,7 @@ use mathlib.Core.Path.{_≡_, refl, sym, _∙_}
 use mathlib.Core.Bool.{Bool, true, false, _&&_}
 use mathlib.Core.List.{List, [], _∷_}
 use mathlib.Core.Option.{Option, none, some}
-use Prim.Native.Nat.{ℕ, _-_, _<_, _≤_}
+use Prim.Native.Nat.{ℕ, _<_, _≤_}
 use native.Mathlib.Omega.{arith}
 use lib.Dec.{eqb}
 use lib.ListN.{length}
@@ -23,7 +23,8 @@ use Rattle.scan.specs.Scan.{depth-after, NotHuge}
 use Rattle.sweep.proofs.Loop.{Going, Gives, go-start, go-end, go-none, go-done, go-token, go-again, go-early}
 use Rattle.grammar.specs.declared.Found.{Found}
 use Rattle.slots.specs.Own.{closes, names-slot, own-slots}
-use Rattle.slots.proofs.Laws.{slot-name, name-is, depth-small}
+use Rattle.scan.proofs.Laws.{depth-small}
+use Rattle.slots.proofs.Laws.{slot-name, name-is}
 use Rattle.start.specs.Find.{and-then, after-kind, first-slot, find, value, opening, start-value, Begins, nowhere, here, Leads}
 
 -- ---- One after the other

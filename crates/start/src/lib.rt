@@ -58,7 +58,7 @@ fn find_slot(c: &[u64; 16384], s: &[u8], from: usize, name: &[u8]) -> Found
                 if is_slot(s, slot, begin, end, name) {
                     return Found::Done(end);
                 }
-                depth = slots::depth_after(depth, k);
+                depth = scan::depth_after(depth, k);
                 last = k;
                 at = end;
             }

@@ -3,7 +3,6 @@ use Prim.Native.Nat.{ℕ, zero, suc}
 use mathlib.Core.Path.{_≡_, refl, _∙_, ap, sym}
 use mathlib.Core.List.{List}
 use mathlib.Core.Bool.{Bool, true, false}
-use native.Mathlib.Omega.{arith}
 use lib.Dec.{eqb}
 use Rattle.words.specs.Words.{pick}
 use Rattle.framed.specs.Tree.{Instruction}
@@ -26,11 +25,10 @@ use Rattle.word_store.specs.State.{state-held}
 use Rattle.evaluation.proofs.Stores.{heap-is}
 use Rattle.checking.specs.Checking.{ChecksInstruction}
 use Rattle.checking.proofs.Memories.{instruction-checks}
-use Rattle.reserving.specs.declared.Reserved.{Reserved}
-use Rattle.reserving.specs.Reserving.{room-end-held, reserved-words, Reserves, Reckons}
+use Rattle.reserving.specs.Reserving.{room-end-held, reserved-words, Reserves}
 use Rattle.reserving.proofs.Meaning.{reserve-ready, reserve-end}
 use Rattle.commit.specs.Commit.{state-of}
-use Rattle.step.specs.Step.{frames-for, texts-for, CanReserve, ready-words, Formed, CanStep, step-end-held, StepEnds}
+use Rattle.step.specs.Step.{frames-for, texts-for, CanReserve, ready-words, Formed, CanStep, step-end-held}
 
 -- ---- The bounded machine's step, by what reserve gives
 
@@ -51,15 +49,12 @@ module _ (q : Program) (F T : ℕ) (b : Bounded Memories) (i : Instruction Path)
   unfolding ended
   roomy e = by-reserve 0 e
 
-  -- an end that is none has room
-  pub end-none : step-end word-store q F T b i ≡ 0 → reserve word-store F T b i ≡ 0
-  end-none e = go (reserve word-store F T b i) refl
-    where
-      go : (n : ℕ) → reserve word-store F T b i ≡ n → reserve word-store F T b i ≡ 0
-      go zero r = r
-      go (suc n) r = absurd (let z : suc n ≡ 0 = sym (full (suc n) (λ z. omega arith) r) ∙ e in omega arith)
-
 -- ---- Over the words
+
+-- the words after reserve, and the end that the step gives
+pub record StepEnds (p l h t : List ℕ) (i r : ℕ) (h′ : List ℕ) : Type 0 where
+  pub words : h′ ≡ ready-words p h i
+  pub end : r ≡ step-end-held p l h t i
 
 module _ (p l h t : List ℕ) (i : ℕ) (can : CanStep p l h t i) where
   pub formed-now : WellFormed p h l t
@@ -123,7 +118,3 @@ module _ (p l h t : List ℕ) (i : ℕ) (can : CanStep p l h t i) where
       words = is-ready;
       end = rw (self-same, program-same, heap-same) at ee ∙ sym (roomy (trees.program-held p l) (frame-limit p) (text-limit p) now (instruction-held p i) (reserved-end ∙ z));
     }
-
--- the end of the check does not change what is known
-pub reckons-checked : (h : List ℕ) (f n : ℕ) (r : Reserved) → Reckons h f n r → r .end ≡ 0 → (e : ℕ) → Reckons h f n (record { end = e; known = r .known })
-reckons-checked h f n r q z e = record { now = q .now; then = λ x. q .then z }

@@ -20,7 +20,7 @@ use Rattle.state_form.proofs.Facts.{well-formed-sized}
 use Rattle.wellformed.specs.WellFormed.{WellFormed}
 use Rattle.allocation.specs.declared.Known.{Known}
 use Rattle.allocation.specs.Allocation.{view-held}
-use Rattle.allocation.specs.Known.{Full, Knows}
+use Rattle.allocation.specs.Known.{Knows}
 use Rattle.allocation.proofs.Views.{shows-frame, shows-no-frame, shows-text, shows-no-text, frames-counted, texts-counted}
 use Rattle.bounded.specs.Views.{frame-at, text-at, Takes}
 use Rattle.bounded.proofs.Theorems.{step-takes}
@@ -29,11 +29,9 @@ use Rattle.word_store.specs.State.{state-held}
 use Rattle.word_store.proofs.Updates.{held-read}
 use Rattle.producing.proofs.Leaves.{in-use-stay, texts-stay}
 use Rattle.running.proofs.Laws.{bounded-form}
-use Rattle.reserving.specs.declared.Reserved.{Reserved}
-use Rattle.reserving.specs.Reserving.{Reckons}
 use Rattle.commit.specs.Commit.{state-of, Commits}
-use Rattle.step.specs.Step.{frames-for, texts-for, CanStep, step-end-held, StepEnds, ready-state}
-use Rattle.step.proofs.Ends.{formed-now, ready-formed}
+use Rattle.step.specs.Step.{frames-for, texts-for, CanStep, step-end-held, ready-state}
+use Rattle.step.proofs.Ends.{StepEnds, formed-now, ready-formed}
 use Rattle.step.proofs.Runs.{ready-is}
 
 -- ---- A mark
@@ -52,12 +50,9 @@ module _ (h : List ℕ) (k : Known) (a : Knows h 0 0 k) where
         };
       }
 
-module _ (h : List ℕ) (f n : ℕ) (s : Reserved) (q : Reckons h f n s) where
-  pub space-knows : Knows h 0 0 (s .known)
-  space-knows = q .now
-
-  pub commits-full : Full h (s .known .low) (s .known .least)
-  commits-full = q .now .full
+-- what is counted in may be left out
+pub knows-now : (h : List ℕ) (f n : ℕ) (k : Known) → Knows h f n k → Knows h 0 0 k
+knows-now h f n k a = record { frames = omega (arith, a .frames); texts = omega (arith, a .texts); full = a .full }
 
 -- ---- What the view shows
 
@@ -88,12 +83,12 @@ module _ (h t h′ t′ : List ℕ) (f n : ℕ) (x : Takes (view-held h t) (view
 
 -- ---- A step that is made
 
-module _ (p l h t : List ℕ) (i : ℕ) (can : CanStep p l h t i) (s : Reserved) (h₁ : List ℕ) (ends : StepEnds p l h t i (s .end) h₁) where
+module _ (p l h t : List ℕ) (i : ℕ) (can : CanStep p l h t i) (e : ℕ) (h₁ : List ℕ) (ends : StepEnds p l h t i e h₁) (k : Known) where
   formed : WellFormed p h₁ l t
   formed = rw (ends .words) (ready-formed p l h t i can)
 
-  pub ended-knows : Reckons h₁ (frames-for p i) (texts-for p i) s → (e : ℕ) (h′ : List ℕ) → h′ ≡ set-end-mark h₁ e → Knows h′ 0 0 (s .known)
-  ended-knows q e h′ eh = rw eh (mark-knows h₁ (s .known) (q .now) (well-formed-sized (formed .state)) e)
+  pub ended-knows : Knows h₁ 0 0 k → (h′ : List ℕ) → h′ ≡ set-end-mark h₁ e → Knows h′ 0 0 k
+  ended-knows a h′ eh = rw eh (mark-knows h₁ k a (well-formed-sized (formed .state)) e)
 
   abbrev rest : Code Path
   rest = remaining p (instruction-after p i)
@@ -105,7 +100,7 @@ module _ (p l h t : List ℕ) (i : ℕ) (can : CanStep p l h t i) (s : Reserved)
   view-is : (h t : List ℕ) → word-store .view (state-of p h t .store) ≡ view-held h t
   view-is h t = held-read (remaining p) h t .view
 
-  module _ (z : s .end ≡ 0) (h′ t′ : List ℕ) (c : Commits p l h₁ t i h′ t′) where
+  module _ (z : e ≡ 0) (h′ t′ : List ℕ) (c : Commits p l h₁ t i h′ t′) where
     ready-now : state-of p h₁ t ≡ ready-state p l h t i
     ready-now = rw (ends .words) (ready-is p l h t i can)
 
@@ -117,5 +112,5 @@ module _ (p l h t : List ℕ) (i : ℕ) (can : CanStep p l h t i) (s : Reserved)
         (instruction-held p i) rest at-next (sym (ends .end) ∙ z) in
         rw (← view-is h₁ t, ← view-is h′ t′, c .state, ready-now) x
 
-    pub made-knows : Reckons h₁ (frames-for p i) (texts-for p i) s → Knows h′ 0 0 (s .known)
-    made-knows q = taken-knows h₁ t h′ t′ (frames-for p i) (texts-for p i) takes (s .known) (q .then z)
+    pub made-knows : Knows h₁ (frames-for p i) (texts-for p i) k → Knows h′ 0 0 k
+    made-knows = taken-knows h₁ t h′ t′ (frames-for p i) (texts-for p i) takes k

@@ -1,5 +1,5 @@
 -- What each way through `attempt` gives. Assumes nothing.
-use Prim.Native.Nat.{ℕ, _-_, _≤_}
+use Prim.Native.Nat.{ℕ, _-_}
 use mathlib.Core.Path.{_≡_, refl, _∙_, ap, ap₂, sym}
 use mathlib.Core.List.{List}
 use lib.ListN.{length, getD}
@@ -7,29 +7,24 @@ use mir.Syntax.{w32}
 use mir.Val.{Fits}
 use borrow.Author.Tests.{ne-eqb}
 use Rattle.words.specs.Words.{word}
-use Rattle.tables.specs.Fields.{frame-limit, text-limit}
-use Rattle.trees.specs.Held.{program-held, instruction-held, remaining}
-use Rattle.heap.specs.Words.{position, set-end-mark}
+use Rattle.trees.specs.Held.{remaining}
+use Rattle.heap.specs.Words.{set-end-mark}
 use Rattle.state_form.specs.declared.Limits.{Limits}
 use Rattle.state_form.specs.Form.{StateWellFormed}
-use Rattle.state_form.proofs.Facts.{well-formed-sized}
 use Rattle.wellformed.specs.WellFormed.{limits, WellFormed}
 use Rattle.checking.proofs.Memories.{well-formed-checks}
 use Rattle.bounded.specs.Bounded.{Bounded, with-mark, Ran, one-more}
 use Rattle.word_store.specs.Store.{Memories, word-store}
 use Rattle.word_store.specs.State.{store-held, state-held, HeaderFormed}
 use Rattle.word_store.proofs.Updates.{held-after, header-after}
-use Rattle.reserving.specs.Reserving.{room-end-held, reserved-words, Reserves}
-use Rattle.reserving.proofs.Meaning.{reserve-end}
-use Rattle.commit.specs.Commit.{state-of, CanCommit, Commits}
+use Rattle.commit.specs.Commit.{state-of, Commits}
 use Rattle.commit.specs.Words.{heap-of, WordsFit}
-use Rattle.commit.proofs.Ready.{can-commit}
 use Rattle.commit.proofs.Exact.{words-exact}
 use Rattle.step.specs.declared.Shown.{Shown}
 use Rattle.step.specs.declared.Outcome.{Outcome}
-use Rattle.step.specs.Step.{frames-for, texts-for, ready-words, CanStep, step-end-held, StepEnds, line-held, CanShow, Shows, committed, committed-heap, committed-text}
+use Rattle.step.specs.Step.{ready-words, CanStep, step-end-held, line-held, CanShow, Shows, committed, committed-heap, committed-text}
 use Rattle.step.specs.Step.{attempt-step, CanAttempt, Attempts, ready-state, machine-run}
-use Rattle.step.proofs.Ends.{formed-now, end-none, ready-formed}
+use Rattle.step.proofs.Ends.{StepEnds, formed-now, ready-formed}
 use Rattle.step.proofs.Line.{Written, too-long, written}
 use Rattle.step.proofs.Runs.{ready-is, run-ended, run-no-space, run-made, run-zero}
 
@@ -41,30 +36,15 @@ words-fit f = record { fits = f }
 formed-header : {h t : List ℕ} {l : Limits} → StateWellFormed h t l → HeaderFormed h l
 formed-header w = record { self-tag = w .self .formed; program-tag = w .program .formed; position-there = w .position-there }
 
+pub attempt-shows : (p l h t : List ℕ) (i : ℕ) (out : List ℕ) (used : ℕ) → CanAttempt p l h t i out used → CanShow p l h t i out used
+attempt-shows p l h t i out used can =
+    let f = formed-now p l h t i (can .step) in
+    record { program = f .program; there = can .step .there; readable = well-formed-checks p h l t f .readable; inside = can .inside }
+
 -- after reserve and check
 module _ (p l h t : List ℕ) (i e : ℕ) (h₁ : List ℕ) (s : StepEnds p l h t i e h₁) (can : CanStep p l h t i) where
   formed : WellFormed p h₁ l t
   formed = rw (s .words) (ready-formed p l h t i can)
-
-  pub attempt-shows : (out : List ℕ) (used : ℕ) → used ≤ length out → CanShow p l h₁ t i out used
-  attempt-shows out used le = record { program = formed .program; there = can .there; readable = well-formed-checks p h₁ l t formed .readable; inside = le }
-
-  ready-from : h₁ ≡ reserved-words p h (frames-for p i) (texts-for p i)
-  unfolding ready-words
-  ready-from = s .words
-
-  reserves : e ≡ 0 → Reserves p h (frames-for p i) (texts-for p i) 0 h₁
-  unfolding step-end-held
-  reserves z = record {
-    words = ready-from;
-    end =
-        sym (reserve-end (remaining p) p h t (instruction-held p i) (room-end-held p h₁ (frames-for p i) (texts-for p i)) h₁ (record { words = ready-from; end = refl })
-        (formed-now p l h t i can .state .heap-size)
-        ∙ end-none (program-held p l) (frame-limit p) (text-limit p) (state-of p h t) (instruction-held p i) (sym (s .end) ∙ z));
-  }
-
-  pub attempt-commits : e ≡ 0 → CanCommit p l h₁ t i
-  attempt-commits z = can-commit p l h h₁ t i (formed .program) (well-formed-sized (formed .state)) (formed .state .text-size) (can .there) (reserves z)
 
   ready-now : state-of p h₁ t ≡ ready-state p l h t i
   ready-now = rw (s .words) (ready-is p l h t i can)

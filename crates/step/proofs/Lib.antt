@@ -4,5 +4,7 @@ pub mod Line
 pub mod Runs
 pub mod Known
 pub mod Laws
+pub mod Room
+pub mod Ready
 pub mod Direct
 pub mod Join

@@ -21,7 +21,9 @@ use Rattle.wellformed.specs.WellFormed.{limits, WellFormed}
 use Rattle.bounded.specs.Bounded.{Bounded, with-mark, ready, step-end, line, commit, Ran, run, stopped, one-more}
 use Rattle.word_store.specs.Store.{Memories, word-store}
 use Rattle.word_store.specs.State.{HeaderFormed}
-use Rattle.reserving.specs.Reserving.{reserved-words}
+use Rattle.allocation.specs.declared.Known.{Known}
+use Rattle.allocation.specs.Known.{Knows}
+use Rattle.reserving.specs.Reserving.{room-end-held, reserved-words}
 use Rattle.commit.specs.Commit.{state-of, position-after}
 use Rattle.commit.specs.Words.{heap-of, WordsFit}
 use Rattle.step.specs.declared.Shown.{Shown}
@@ -46,6 +48,11 @@ pub record CanReserve (p h : List ℕ) (i : ℕ) : Type 0 where
 unfoldable pub ready-words : List ℕ → List ℕ → ℕ → List ℕ
 ready-words p h i = reserved-words p h (frames-for p i) (texts-for p i)
 
+-- there is room for what instruction i makes, which is counted in
+pub record RoomFor (p h : List ℕ) (i : ℕ) (k : Known) : Type 0 where
+  pub room : 0 ≡ room-end-held p h (frames-for p i) (texts-for p i)
+  pub knows : Knows h (frames-for p i) (texts-for p i) k
+
 -- ---- The end
 
 -- the memories are well-formed (document 01: whole), as one fact
@@ -63,10 +70,6 @@ module _ (p l h t : List ℕ) (i : ℕ) where
   -- reserve, then check
   unfoldable pub step-end-held : ℕ
   step-end-held = step-end word-store (program-held p l) (frame-limit p) (text-limit p) (state-of p h t) (instruction-held p i)
-
-  pub record StepEnds (r : ℕ) (h′ : List ℕ) : Type 0 where
-    pub words : h′ ≡ ready-words p h i
-    pub end : r ≡ step-end-held
 
   -- ---- The line, from the words after reserve
 

@@ -4,7 +4,7 @@ use reserving::Reserved;
 use tables::InstructionEntry;
 ghost use mathlib.Core.Path.{_≡_};
 ghost use mathlib.Core.Bool.{true};
-ghost use Rattle.step.specs.Step.{CanReserve, CanStep, StepEnds, CanShow, Shows, CanAttempt, Attempts, AttemptsQuietly};
+ghost use Rattle.step.specs.Step.{CanReserve, RoomFor, CanStep, CanShow, Shows, CanAttempt, Attempts, AttemptsQuietly};
 ghost use Rattle.step.specs.Step.{frames-for, texts-for};
 ghost use Rattle.allocation.specs.Known.{Knows};
 ghost use Rattle.reserving.specs.Reserving.{Reserves, Reckons};
@@ -43,31 +43,6 @@ pub fn reserve_for(p: &[u32], h: &mut [u32], i: u32, k: Known) -> Reserved
     reserving::reserve(p, h, needs::frames(n), needs::texts(n), k)
 }
 
-// The end that the step on instruction i gives, 0 where it goes on. Nothing but a collection is written.
-pub fn step_end<'a>(
-    p: &[u32],
-    l: &'a [u8],
-    h: &mut [u32],
-    t: &'a [u8],
-    i: u32,
-    k: Known,
-) -> Reserved
-    requires { ⌜ CanStep (now p) (now l) (now h) (now t) i ⌝ }
-    requires { ⌜ Knows (now h) 0 0 k ⌝ }
-    ensures exact { λ r. ⌜ StepEnds (now (p .entry)) (now (l .entry)) (now (h .entry)) (now (t .entry)) i (r .end) (now (h .exit)) ⌝ }
-    ensures knows { λ r. ⌜ Reckons (now (h .exit)) (frames-for (now (p .entry)) i) (texts-for (now (p .entry)) i) r ⌝ }
-{
-    let full = reserve_for(p, h, i, k);
-    if full.end != 0 {
-        return full;
-    }
-    let known = full.known;
-    Reserved {
-        end: checking::check(p, l, h, t, i),
-        known: known,
-    }
-}
-
 // The line of instruction i at a position of the buffer, where it fits behind it. Only a show has one.
 pub fn show<'a>(
     p: &[u32],
@@ -93,8 +68,67 @@ pub fn show<'a>(
     Shown::Written(n)
 }
 
-// The step on instruction i, part by part: the end that it gives is marked; without space for its line nothing is done; else the line is written and the instruction committed.
+// The step on instruction i after reserve, part by part: the end that it meets is marked; without space for its line nothing is done; else the line is written and the instruction committed.
 fn in_parts(
+    p: &[u32],
+    l: &[u8],
+    h: &mut [u32],
+    t: &mut [u8],
+    i: u32,
+    out: &mut [u8],
+    used: usize,
+    k: Known,
+) -> Tried
+    requires { ⌜ CanAttempt (now p) (now l) (now h) (now t) i (now out) used ⌝ }
+    requires { ⌜ RoomFor (now p) (now h) i k ⌝ }
+    ensures exact { λ r. ⌜ Attempts (now (p .entry)) (now (l .entry)) (now (h .entry)) (now (t .entry)) i (now (out .entry)) used (r .outcome) (now (h .exit)) (now (t .exit)) (now (out .exit)) ⌝ }
+    ensures knows { λ r. ⌜ Knows (now (h .exit)) 0 0 (r .known) ⌝ }
+{
+    let e = checking::check(p, l, h, t, i);
+    if e != 0 {
+        heap::set_end_mark(h, e);
+        return Tried {
+            outcome: Outcome::Ended(e),
+            known: k,
+        };
+    }
+    let Shown::Written(n) = show(p, l, h, t, i, out, used) else {
+        return Tried {
+            outcome: Outcome::NoSpace,
+            known: k,
+        };
+    };
+    commit::commit(p, l, h, t, i, k.low, k.least);
+    Tried {
+        outcome: Outcome::Made(n),
+        known: k,
+    }
+}
+
+// The step on an instruction that assigns a join, after reserve, in one go. The end that it meets is marked; it has no line.
+fn joined(p: &[u32], l: &[u8], h: &mut [u32], t: &mut [u8], i: u32, k: Known) -> Tried
+    requires { ⌜ CanStep (now p) (now l) (now h) (now t) i ⌝ }
+    requires { ⌜ joins-entry (now p) i ≡ true ⌝ }
+    requires { ⌜ RoomFor (now p) (now h) i k ⌝ }
+    ensures exact { λ r. ⌜ AttemptsQuietly (now (p .entry)) (now (l .entry)) (now (h .entry)) (now (t .entry)) i (r .outcome) (now (h .exit)) (now (t .exit)) ⌝ }
+    ensures knows { λ r. ⌜ Knows (now (h .exit)) 0 0 (r .known) ⌝ }
+{
+    let met = direct::assign_join(p, l, h, t, i, k.least);
+    if met != 0 {
+        heap::set_end_mark(h, met);
+        return Tried {
+            outcome: Outcome::Ended(met),
+            known: k,
+        };
+    }
+    Tried {
+        outcome: Outcome::Made(0),
+        known: k,
+    }
+}
+
+// The step on an instruction that makes or shows something: reserve, then the rest. The end that reserve gives is marked.
+fn reserved(
     p: &[u32],
     l: &[u8],
     h: &mut [u32],
@@ -109,37 +143,6 @@ fn in_parts(
     ensures exact { λ r. ⌜ Attempts (now (p .entry)) (now (l .entry)) (now (h .entry)) (now (t .entry)) i (now (out .entry)) used (r .outcome) (now (h .exit)) (now (t .exit)) (now (out .exit)) ⌝ }
     ensures knows { λ r. ⌜ Knows (now (h .exit)) 0 0 (r .known) ⌝ }
 {
-    let s = step_end(p, l, h, t, i, k);
-    let e = s.end;
-    let known = s.known;
-    if e != 0 {
-        heap::set_end_mark(h, e);
-        return Tried {
-            outcome: Outcome::Ended(e),
-            known: known,
-        };
-    }
-    let Shown::Written(n) = show(p, l, h, t, i, out, used) else {
-        return Tried {
-            outcome: Outcome::NoSpace,
-            known: known,
-        };
-    };
-    commit::commit(p, l, h, t, i, known.low, known.least);
-    Tried {
-        outcome: Outcome::Made(n),
-        known: known,
-    }
-}
-
-// The step on an instruction that assigns a join: reserve, then in one go. The end that it gives is marked; it has no line.
-fn joined(p: &[u32], l: &[u8], h: &mut [u32], t: &mut [u8], i: u32, k: Known) -> Tried
-    requires { ⌜ CanStep (now p) (now l) (now h) (now t) i ⌝ }
-    requires { ⌜ joins-entry (now p) i ≡ true ⌝ }
-    requires { ⌜ Knows (now h) 0 0 k ⌝ }
-    ensures exact { λ r. ⌜ AttemptsQuietly (now (p .entry)) (now (l .entry)) (now (h .entry)) (now (t .entry)) i (r .outcome) (now (h .exit)) (now (t .exit)) ⌝ }
-    ensures knows { λ r. ⌜ Knows (now (h .exit)) 0 0 (r .known) ⌝ }
-{
     let s = reserve_for(p, h, i, k);
     let full = s.end;
     let known = s.known;
@@ -150,18 +153,10 @@ fn joined(p: &[u32], l: &[u8], h: &mut [u32], t: &mut [u8], i: u32, k: Known) ->
             known: known,
         };
     }
-    let met = direct::assign_join(p, l, h, t, i, known.least);
-    if met != 0 {
-        heap::set_end_mark(h, met);
-        return Tried {
-            outcome: Outcome::Ended(met),
-            known: known,
-        };
+    if direct::joins(p, i) {
+        return joined(p, l, h, t, i, known);
     }
-    Tried {
-        outcome: Outcome::Made(0),
-        known: known,
-    }
+    in_parts(p, l, h, t, i, out, used, known)
 }
 
 // The step on instruction i: the end that it gives is marked; without space for its line nothing is done; else the line is written and the instruction committed. One that makes nothing and shows nothing is done in one go, and so is one that assigns a join, after reserve.
@@ -188,10 +183,7 @@ pub fn attempt(
         };
     }
     if d == 255 {
-        if direct::joins(p, i) {
-            return joined(p, l, h, t, i, k);
-        }
-        return in_parts(p, l, h, t, i, out, used, k);
+        return reserved(p, l, h, t, i, out, used, k);
     }
     heap::set_end_mark(h, d);
     Tried {

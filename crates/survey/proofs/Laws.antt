@@ -1,5 +1,5 @@
 -- One reading of a source: what is kept of the names, and all that is kept and counted, from token to token. Assumes nothing.
-use mathlib.Core.Path.{_≡_, refl, sym, ap, _∙_, subst}
+use mathlib.Core.Path.{_≡_, refl, ap, _∙_, subst}
 use mathlib.Core.Bool.{Bool, true, false}
 use mathlib.Core.List.{List}
 use Prim.Native.Nat.{ℕ, max, _+_, _<_, _≤_}
@@ -11,15 +11,14 @@ use borrow.Author.Tests.{eq-eqb, ne-eqb, eqb-false}
 use Rattle.framed.specs.Common.{if_then_else_}
 use Rattle.framed.specs.Bytes.{class}
 use Rattle.framed.specs.Tokens.{tokens}
-use Rattle.source.specs.Positions.{part}
-use Rattle.words.specs.Words.{word, set-word}
+use Rattle.words.specs.Words.{set-word}
 use Rattle.words.proofs.Laws.{set-size}
 use Rattle.token.specs.Reading.{TokenAt}
 use Rattle.token.specs.declared.TokenRead.{TokenRead}
 use Rattle.token_cache.specs.Cache.{Cached, CanStore, NotesFrom, Unnoted}
 use Rattle.sweep.specs.Decides.{Short, Decides}
 use Rattle.scan.specs.Scan.{tokens-refusal, depth-after, last-refusal, NotHuge}
-use Rattle.scan.proofs.Laws.{Scanning, scan-start, scan-end, scan-four, scan-again, scan-small, scan-done, scan-store}
+use Rattle.scan.proofs.Laws.{Scanning, scan-start, scan-end, scan-four, scan-again, scan-small, scan-done}
 use Rattle.names.specs.Kept.{Few, Numbered, Marked, Sized, Kept, KeptAs, Leads}
 use Rattle.names.proofs.Laws.{Keeping, keeping-start, keeping-end, keeping-none, keeping-again, keeping-many, keeping-done, keep-other, numbered-none}
 use Rattle.names.proofs.Numbers.{kept-noted, kept-here, kept-stays}

@@ -11,11 +11,11 @@ use Rattle.token_cache.proofs.store_name.Reads as store-name-reads
 
 -- src/lib.rt:42:17
 number-requires : tie.Need-number-requires
-number-requires c κs = (search take-few, (search take-marked, search take-numbered))
+number-requires c κs = (take-few _ _ _ _ _ _ _ _ _ _ _ (c .before .before .before .before .before .before .before .before .pre) (search needs), (take-marked _ _ _ _ _ _ _ _ _ _ _ (c .before .before .before .before .before .before .before .before .pre) (search needs), search take-numbered))
 
 -- src/lib.rt:43:56
 add-store-name : tie.Need-add-store-name
-add-store-name c = search (take-small, needs)
+add-store-name c = search (needs, take-small _ _ _ _ _ _ _ _ _ _ _ (c .before .before .before .before .before .before .before .before .before .before .before .before .before .before .pre) _ _ _ _ (search needs) (c .before .before .before .before .before .number .ensures))
 
 -- src/lib.rt:43:13
 store-name-requires : tie.Need-store-name-requires
@@ -31,7 +31,7 @@ same-length-2 c = search needs
 
 -- src/lib.rt:44:13
 returns : tie.Need-returns
-returns c = (search needs, search taken-name)
+returns c = (search needs, taken-name _ _ _ _ _ _ _ _ _ _ _ (c .before .before .before .before .before .before .before .before .before .before .before .before .before .before .before .pre) _ _ _ _ (search needs) (c .before .before .before .before .before .before .number .ensures) (search (c .before .before .before .before .before .before .before .before .before .before .before .if1 .taken)) _ (c .store-name .ensures .1))
 
 -- src/lib.rt:47:5
 store-requires : tie.Need-store-requires
