@@ -59,6 +59,7 @@ fn count_after(n: u32, j: u32) -> u32
     n
 }
 
+// All that was found, with the sums of a tally.
 fn found(refusal: u32, names: u32, strings: u32, clean: bool, t: Tally) -> Findings
     ensures { λ r. ⌜ r ≡ findings-of refusal names strings clean (sums-of t) ⌝ }
 {
@@ -72,6 +73,7 @@ fn found(refusal: u32, names: u32, strings: u32, clean: bool, t: Tally) -> Findi
     }
 }
 
+// Reads the source once, up to its end or to bytes that form no token. The names are kept, and the places of the first 129 strings.
 pub fn survey(
     c: &mut [u64; 16384],
     s: &[u8],
