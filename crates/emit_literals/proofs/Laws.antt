@@ -8,7 +8,7 @@ use native.Mathlib.Omega.{arith}
 use native.Mathlib.Nat.{min-le-right}
 use lib.ListN.{length, drop, getD, drop-of-length-le, length-take, length-drop}
 use lib.Seq.{drop-cons}
-use types.Run.{OneOf}
+use types.Run.{OneOf, miss}
 use denote.Enum.Declared.{tagOf}
 use Rattle.framed.specs.Bytes.{class}
 use Rattle.framed.specs.Tokens.{Token, tokens}
@@ -21,10 +21,10 @@ use Rattle.token.specs.declared.TokenRead.{TokenRead}
 use Rattle.token.proofs.TokenRead.{the-type}
 use Rattle.sweep.specs.Decides.{Short}
 use Rattle.strings.specs.Places.{StringAt, Placed}
-use Rattle.strings.proofs.Laws.{string-there, string-is}
+use Rattle.strings.proofs.Laws.{ReadAgain, string-read}
 use Rattle.table_updates.specs.Updates.{set-literal-length, set-literal-byte}
 use Rattle.emission.specs.Emit.{write-literal-lengths, write-literal-bytes, write-literals}
-use Rattle.emit_literals.specs.Literals.{Written, AllWritten}
+use Rattle.emit_literals.specs.Literals.{token-length, token-bytes, Written, AllWritten}
 
 -- ---- The bytes of a literal
 
@@ -57,14 +57,36 @@ module _ (l₀ : List ℕ) (k : ℕ) (w l : List ℕ) (i : ℕ) (c : Writing l�
 
 module _ (s : List ℕ) (at k : ℕ) (p l : List ℕ) (r : TokenRead) (found : TokenAt class s at r) where
   pub literal-none : OneOf (0 ∷ 1 ∷ []) (tagOf the-type r) → Written s at k p l p l
-  literal-none o = record { words-are = λ w x. absurd (string-there s at w x r found o); bytes-are = λ w x. absurd (string-there s at w x r found o) }
+  unfolding token-length token-bytes
+  literal-none o = record { read = r; found = found; words-are = words r o; bytes-are = bytes r o }
+    where
+      words : (q : TokenRead) → OneOf (0 ∷ 1 ∷ []) (tagOf the-type q) → p ≡ token-length s k q p
+      words TokenRead.End o = refl
+      words TokenRead.NoToken o = refl
+      words (TokenRead.Token j a q v) o = absurd (miss (0 ∷ 1 ∷ []) 2 tt o)
+
+      bytes : (q : TokenRead) → OneOf (0 ∷ 1 ∷ []) (tagOf the-type q) → l ≡ token-bytes s k q l
+      bytes TokenRead.End o = refl
+      bytes TokenRead.NoToken o = refl
+      bytes (TokenRead.Token j a q v) o = absurd (miss (0 ∷ 1 ∷ []) 2 tt o)
 
   pub literal-one : (n a q x : ℕ) → r ≡ TokenRead.Token n a q x → (v : List ℕ) → v ≡ part s (a + 1) (q - 1) → (p' l' : List ℕ) → p' ≡ set-literal-length p k (length v) → l' ≡ write-literal-bytes v k 0 l →
       Written s at k p l p' l'
-  literal-one n a q x h v ev p' l' ep el = record { words-are = λ w y. ep ∙ rw (is w y); bytes-are = λ w y. el ∙ rw (is w y) }
-    where
-      is : (w : List ℕ) → StringAt s at w → v ≡ w
-      is w y = ev ∙ sym (string-is s at w y r found n a q x h)
+  unfolding token-length token-bytes
+  literal-one n a q x h v ev p' l' ep el = record { read = r; found = found; words-are = rw (h, ep, ev); bytes-are = rw (h, el, ev) }
+
+-- a string is written with its bytes
+module _ (s : List ℕ) (at k : ℕ) (p l p' l' : List ℕ) (h : Written s at k p l p' l') (w : List ℕ) (x : StringAt s at w) where
+  again : ReadAgain s w (h .read)
+  again = string-read s at w x (h .read) (h .found)
+
+  string-words : p' ≡ set-literal-length p k (length w)
+  unfolding token-length
+  string-words = h .words-are ∙ ap (λ (q : TokenRead). token-length s k q p) (again .is) ∙ ap (λ (v : List ℕ). set-literal-length p k (length v)) (sym (again .bytes))
+
+  string-bytes : l' ≡ write-literal-bytes w k 0 l
+  unfolding token-bytes
+  string-bytes = h .bytes-are ∙ ap (λ (q : TokenRead). token-bytes s k q l) (again .is) ∙ ap (λ (v : List ℕ). write-literal-bytes v k 0 l) (sym (again .bytes))
 
 module _ (s : List ℕ) (a q : ℕ) (w : List ℕ) (ew : w ≡ part s (a + 1) (q - 1)) (h : Short s) where
   pub literal-short : Short w
@@ -122,7 +144,7 @@ module _ (s places : List ℕ) (m : ℕ) (placed : Placed s places m) (p₀ l₀
   passing-again h at p' l' written j ea ej zp zl = record {
     words-size = zp ∙ i .words-size;
     bytes-size = zl ∙ i .bytes-size;
-    left = λ ts f few. rw (written .words-are _ (here ts f few), written .bytes-are _ (here ts f few)) (left-more (literals ts) p₀ l₀ p l k (i .left ts f few) (rw (← placed .count ts f) h));
+    left = λ ts f few. rw (string-words s at k p l p' l' written _ (here ts f few), string-bytes s at k p l p' l' written _ (here ts f few)) (left-more (literals ts) p₀ l₀ p l k (i .left ts f few) (rw (← placed .count ts f) h));
   }
     where
       here : (ts : List Token) → tokens class s ≡ some ts → length (literals ts) ≤ 128 → StringAt s at (getD (literals ts) k [])

@@ -31,7 +31,7 @@ use Rattle.word_store.specs.Store.{Memories, word-store, claim-frame}
 use Rattle.word_store.specs.State.{store-held}
 use Rattle.producing.specs.Producing.{Leaves, made}
 use Rattle.producing.proofs.Leaves.{leaves-none, leaves-both}
-use Rattle.evaluation.specs.Evaluation.{Claims, strings, CanEvaluate, Flat, Evaluates, CanFill, Fills, FilledUpTo, FillsBases}
+use Rattle.evaluation.specs.Evaluation.{Claims, strings, CanEvaluate, Flat, Evaluates, CanFill, Fills, FillsBases}
 use Rattle.evaluation.proofs.Fits.{fits-frame}
 use Rattle.evaluation.proofs.Stores.{next-is, claim-store, push-store, self-kept, program-kept, claim-in-use, claim-leaves, push-leaves}
 
@@ -293,50 +293,69 @@ module _ (p l : List ℕ) (f from low least : ℕ) (h₀ t₀ : List ℕ) where
 
 -- ---- fill_bases
 
--- the loop: the bases so far
+-- the loop: what is left gives the same as the whole
 module _ (p : List ℕ) (f from : ℕ) (h₀ : List ℕ) where
   pub record FillingBases (h : List ℕ) (z : ℕ) : Type 0 where
     size : length h ≡ length h₀
-    so-far : FillsBases p h₀ f from z h
+    left : (r : ℕ) (h′ : List ℕ) → FillsBases p f h z r h′ → FillsBases p f h₀ from r h′
 
   pub bases-start : FillingBases h₀ from
-  bases-start = record { size = refl; so-far = record { filled = λ l t c. record { can = c; leaves = leaves-none 0 0 (c .writable .sized) (c .writable .text-size); rest = λ h″ t″ q. q } } }
+  bases-start = record { size = refl; left = λ r h′ q. q }
 
   module _ (h : List ℕ) (z : ℕ) (k : FillingBases h z) where
     pub bases-size : length h ≡ length h₀
     bases-size = k .size
 
-    pub bases-end : FillsBases p h₀ f from z h
-    bases-end = k .so-far
+    pub bases-done : z ≡ 0 → FillsBases p f h₀ from 0 h
+    bases-done e = k .left 0 h (FillsBases.none e)
 
-    pub bases-done : z ≡ 0 → FillsBases p h₀ f from 0 h
-    bases-done e = rw e at (k .so-far)
+    module _ (nz : z ≡ 0 → ⊥) (q : ℕ) (eq : q ≡ expression-kind p (z - 1)) where
+      pub bases-end : 5 ≤ q → FillsBases p f h₀ from z h
+      bases-end le = k .left z h (FillsBases.other nz (omega (arith, eq)))
 
-    module _ (nz : z ≡ 0 → ⊥) (q : ℕ) (eq : q ≡ expression-kind p (z - 1)) (lt : q < 5) (v : Value) (ev : v ≡ value-given (operand-value p h (z - 1)))
-        (x : ℕ) (ex : x ≡ slot-name p (z - 1)) (h₂ : List ℕ) (eh : h₂ ≡ add-slot h f x v) (w : ℕ) (ew : w ≡ slot-after p (z - 1)) where
-      one-more : (l t : List ℕ) → FilledUpTo p l h₀ t f from z h → FilledUpTo p l h₀ t f from w h₂
-      one-more l t b =
-          let c = b .can in
-          let m = base-evaluates p l h t (z - 1) (slot-can p l h t f z c nz (z - 1) refl) q eq lt v ev in
-          record {
-            can = next-can p l h t f z c nz (z - 1) refl v h t m x ex h₂ eh w ew;
-            leaves = leaves-both (b .leaves) (pushed p l h t f z c nz (z - 1) refl v h t m x ex h₂ eh w ew);
-            rest = λ h″ t″ r. b .rest h″ t″ (rest-filled p l h t f z c nz (z - 1) refl v h t m x ex h₂ eh w ew h″ t″ r);
-          }
+      pub bases-again : q < 5 → (v : Value) → v ≡ value-given (operand-value p h (z - 1)) → (x : ℕ) → x ≡ slot-name p (z - 1) → (h₂ : List ℕ) → h₂ ≡ add-slot h f x v → (w : ℕ) → w ≡ slot-after p (z - 1) →
+          length h₂ ≡ length h → FillingBases h₂ w
+      bases-again lt v ev x ex h₂ eh w ew e = record {
+        size = e ∙ k .size;
+        left = λ r h′ b. k .left r h′ (FillsBases.base nz (omega (arith, eq)) (rw (eh, ex, ev, ew) at b));
+      }
 
-      pub bases-again : length h₂ ≡ length h → FillingBases h₂ w
-      bases-again e = record { size = e ∙ k .size; so-far = record { filled = λ l t c. one-more l t (k .so-far .filled l t c) } }
+-- the bases from z on are pushed up to the place r, and nothing is made: what fills the slots from r on then fills all
+record FilledUpTo (p l h t : List ℕ) (f z r : ℕ) (h′ : List ℕ) : Type 0 where
+  can : CanFill p l h′ t f r
+  leaves : Leaves h t 0 0 h′ t
+  rest : (h″ t″ : List ℕ) → Fills p l h′ t f r h″ t″ → Fills p l h t f z h″ t″
+
+module _ (p l t : List ℕ) (f : ℕ) (h₀ : List ℕ) (from : ℕ) where
+  one-more : (h : List ℕ) (z : ℕ) → (z ≡ 0 → ⊥) → expression-kind p (z - 1) < 5 → FilledUpTo p l h₀ t f from z h →
+      FilledUpTo p l h₀ t f from (slot-after p (z - 1)) (add-slot h f (slot-name p (z - 1)) (value-given (operand-value p h (z - 1))))
+  one-more h z nz lt b =
+      let c = b .can in
+      let v = value-given (operand-value p h (z - 1)) in
+      let m = base-evaluates p l h t (z - 1) (slot-can p l h t f z c nz (z - 1) refl) (expression-kind p (z - 1)) refl lt v refl in
+      record {
+        can = next-can p l h t f z c nz (z - 1) refl v h t m (slot-name p (z - 1)) refl (add-slot h f (slot-name p (z - 1)) v) refl (slot-after p (z - 1)) refl;
+        leaves = leaves-both (b .leaves) (pushed p l h t f z c nz (z - 1) refl v h t m (slot-name p (z - 1)) refl (add-slot h f (slot-name p (z - 1)) v) refl (slot-after p (z - 1)) refl);
+        rest = λ h″ t″ r. b .rest h″ t″ (rest-filled p l h t f z c nz (z - 1) refl v h t m (slot-name p (z - 1)) refl (add-slot h f (slot-name p (z - 1)) v) refl (slot-after p (z - 1)) refl h″ t″ r);
+      }
+
+  filled-on : {h h′ : List ℕ} {z r : ℕ} → FillsBases p f h z r h′ → FilledUpTo p l h₀ t f from z h → FilledUpTo p l h₀ t f from r h′
+  filled-on (FillsBases.none e) b = rw e at b
+  filled-on (FillsBases.other nz le) b = b
+  filled-on (FillsBases.base {h = h} {z = z} nz lt q) b = filled-on q (one-more h z nz lt b)
 
 -- ---- make
 
-module _ (p l h t : List ℕ) (x : ℕ) (can : CanEvaluate p l h t x) (f : ℕ) (h₁ : List ℕ) (c : Claims h f h₁) (z r : ℕ) (h₂ : List ℕ) (b : FillsBases p h₁ f z r h₂)
+module _ (p l h t : List ℕ) (x : ℕ) (can : CanEvaluate p l h t x) (f : ℕ) (h₁ : List ℕ) (c : Claims h f h₁) (z r : ℕ) (h₂ : List ℕ) (b : FillsBases p f h₁ z r h₂)
     (d : ℕ) (ed : d ≡ expression-a p x) (ez : z ≡ link 1024 x d) (k : ℕ) (ek : k ≡ expression-kind p x) (is : k ≡ 5) where
   frame-entry : ExpressionEntry.Frame d ≡ expression-at p x
   unfolding expression-at expression-of
   frame-entry = rw (← ek, is, ed)
 
   up-to : FilledUpTo p l h₁ t f z r h₂
-  up-to = b .filled l t (evaluate-can-fill p l h t x can (ExpressionEntry.Frame d) frame-entry d refl f h₁ c z ez)
+  up-to =
+      let k = evaluate-can-fill p l h t x can (ExpressionEntry.Frame d) frame-entry d refl f h₁ c z ez in
+      filled-on p l t f h₁ z b (record { can = k; leaves = leaves-none 0 0 (k .writable .sized) (k .writable .text-size); rest = λ h″ t″ q. q })
 
   pub make-can-fill : CanFill p l h₂ t f r
   make-can-fill = up-to .can

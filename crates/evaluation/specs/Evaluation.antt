@@ -1,19 +1,20 @@
 -- Document 01, "The endless machine", the value of an expression, over the words: it is the bounded machine's `evaluate` on the store that the words are. The words of
 -- self, program, position and end mark stay as they are. Assumes nothing.
-use Prim.Native.Nat.{ℕ, _<_}
+use Prim.Native.Nat.{ℕ, _-_, _<_, _≤_}
 use mathlib.Core.Path.{_≡_}
 use mathlib.Core.List.{List}
 use Rattle.framed.specs.declared.Value.{Value}
 use Rattle.framed.specs.Machine.{frame-literals, frame-literals-in, join-signs, join-signs-in}
 use Rattle.tables.specs.declared.ExpressionEntry.{ExpressionEntry}
 use Rattle.tables.specs.Entries.{expression-at}
-use Rattle.tables.specs.Fields.{expressions}
+use Rattle.tables.specs.Fields.{expressions, expression-kind, slot-name, slot-after}
 use Rattle.program_form.specs.Sound.{SlotPlace}
 use Rattle.trees.specs.Held as trees
-use Rattle.heap.specs.Words.{self-held, program-held}
+use Rattle.heap.specs.Words.{self-held, program-held, add-slot}
 use Rattle.heap.specs.Closed.{ValueFits, FrameInUse}
 use Rattle.allocation.specs.Allocation.{next-frame}
-use Rattle.bounded.specs.Bounded.{evaluate, fill}
+use Rattle.bounded.specs.Bounded.{value-given, evaluate, fill}
+use Rattle.operands.specs.Operands.{operand-value}
 use Rattle.word_store.specs.Store.{word-store, claim-frame}
 use Rattle.word_store.specs.State.{store-held}
 use Rattle.producing.specs.Producing.{HasRoom, Writable, Leaves, made}
@@ -62,12 +63,9 @@ pub record Fills (p l h t : List ℕ) (f z : ℕ) (h′ t′ : List ℕ) : Type 
 
 -- ---- Bases among the slots
 
--- those from z on are pushed up to the place r, and nothing is made: what fills the slots from r on then fills all
-pub record FilledUpTo (p l h t : List ℕ) (f z r : ℕ) (h′ : List ℕ) : Type 0 where
-  pub can : CanFill p l h′ t f r
-  pub leaves : Leaves h t 0 0 h′ t
-  pub rest : (h″ t″ : List ℕ) → Fills p l h′ t f r h″ t″ → Fills p l h t f z h″ t″
-
--- so with all literal and text bytes with which the slots can be filled
-pub record FillsBases (p h : List ℕ) (f z r : ℕ) (h′ : List ℕ) : Type 0 where
-  pub filled : (l t : List ℕ) → CanFill p l h t f z → FilledUpTo p l h t f z r h′
+-- the bases (kinds 0 to 4) from the place z on are pushed on frame f, up to the place r of a slot that is no base; r is 0 where none is left
+pub data FillsBases (p : List ℕ) (f : ℕ) : List ℕ → ℕ → ℕ → List ℕ → Type 0 where
+  none : {h : List ℕ} {z : ℕ} → z ≡ 0 → FillsBases p f h z 0 h
+  other : {h : List ℕ} {z : ℕ} → (z ≡ 0 → ⊥) → 5 ≤ expression-kind p (z - 1) → FillsBases p f h z z h
+  base : {h h′ : List ℕ} {z r : ℕ} → (z ≡ 0 → ⊥) → expression-kind p (z - 1) < 5 →
+      FillsBases p f (add-slot h f (slot-name p (z - 1)) (value-given (operand-value p h (z - 1)))) (slot-after p (z - 1)) r h′ → FillsBases p f h z r h′

@@ -80,7 +80,7 @@ pub fn fill(
 
 // The bases (kinds 0 to 4) from a place on, pushed on frame f, up to a slot that is no base: its place, 0 where none is left.
 pub fn fill_bases(p: &[u32], h: &mut [u32], f: u32, from: u32) -> u32
-    ensures { λ r. ⌜ FillsBases (now (p .entry)) (now (h .entry)) f from r (now (h .exit)) ⌝ }
+    ensures { λ r. ⌜ FillsBases (now (p .entry)) f (now (h .entry)) from r (now (h .exit)) ⌝ }
 {
     let mut z = from;
     while z != 0 {

@@ -27,7 +27,7 @@ use Rattle.shapes.proofs.Names.{same-equal, same-self}
 use Rattle.sweep.proofs.Lists.{or-false, or-true, any-last}
 use Rattle.sweep.proofs.Loop as Loop
 use Rattle.sweep.proofs.Loop.{Going, Gives, go-start, go-end, go-none, go-done, go-again}
-use Rattle.names.specs.Kept.{table-of, is-new, hash-from, hash-of, Marked, Sized, Numbered, Noted, Kept}
+use Rattle.names.specs.Kept.{table-of, hash-from, hash-of, Marked, Sized, Numbered, Kept}
 
 -- ---- The names kept
 
@@ -255,6 +255,17 @@ not-known true false e = refl
 not-known false u e = absurd (false≢true e)
 
 -- ---- A token is kept
+
+-- a token of kind k from a up to p is a name, and not one of them
+unfoldable pub is-new : List ℕ → List ℕ → List ℕ → ℕ → ℕ → ℕ → ℕ → Bool
+is-new s begins ends n k a p = eqb k 25 && not (any (same (part s a p)) (table-of s begins ends n))
+
+-- such a token is kept as the next name, with a hint
+pub record Noted (s begins ends hints : List ℕ) (n k a p : ℕ) (begins' ends' hints' : List ℕ) (r : ℕ) : Type 0 where
+  pub begins-is : begins' ≡ (if is-new s begins ends n k a p then set-word begins n a else begins)
+  pub ends-is : ends' ≡ (if is-new s begins ends n k a p then set-word ends n p else ends)
+  pub hints-are : hints' ≡ (if is-new s begins ends n k a p then set-word hints (hash-of (part s a p)) (n + 1) else hints)
+  pub count-is : r ≡ (if is-new s begins ends n k a p then n + 1 else n)
 
 module _ (s b e hints : List ℕ) (n k a p : ℕ) where
   pub keep-other : (k ≡ 25 → ⊥) → Noted s b e hints n k a p b e hints n

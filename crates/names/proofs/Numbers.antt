@@ -15,8 +15,8 @@ use Rattle.source.specs.Positions.{part}
 use Rattle.words.specs.Words.{word, set-word}
 use Rattle.words.proofs.Laws.{word-other, word-same}
 use Rattle.shapes.proofs.Names.{known-any, same-equal}
-use Rattle.names.specs.Kept.{table-of, is-new, hash-of, Marked, Numbered, Noted, KeptAs}
-use Rattle.names.proofs.Laws.{table-length, number-last, number-stays, number-none, unknown}
+use Rattle.names.specs.Kept.{table-of, hash-of, Marked, Numbered, KeptAs}
+use Rattle.names.proofs.Laws.{is-new, Noted, table-length, number-last, number-stays, number-none, unknown}
 
 -- ---- The number of a word
 

@@ -1,12 +1,11 @@
 -- Document 01, "Limits and paths": distinct names. Names are kept by where each begins and ends in the source. Assumes nothing.
 use mathlib.Core.Path.{_≡_}
-use mathlib.Core.Bool.{Bool, _&&_, not}
 use mathlib.Core.List.{List, [], _∷_, _++_}
 use mathlib.Core.Option.{some}
 use Prim.Native.Nat.{ℕ, zero, suc, _+_, _*_, _%_, _<_, _≤_}
 use lib.Dec.{eqb, ltb}
 use lib.ListN.{length}
-use Rattle.framed.specs.Common.{if_then_else_, any, same}
+use Rattle.framed.specs.Common.{if_then_else_}
 use Rattle.framed.specs.Bytes.{class}
 use Rattle.framed.specs.Tokens.{Token, tokens}
 use Rattle.framed.specs.Symbols.{name-table, number-in}
@@ -21,10 +20,6 @@ unfoldable pub table-of : List ℕ → List ℕ → List ℕ → ℕ → List (L
 table-of s begins ends zero = []
 table-of s begins ends (suc n) = table-of s begins ends n ++ (part s (word begins n) (word ends n) ∷ [])
 
--- a token of kind k from a up to p is a name, and not one of them
-unfoldable pub is-new : List ℕ → List ℕ → List ℕ → ℕ → ℕ → ℕ → ℕ → Bool
-is-new s begins ends n k a p = eqb k 25 && not (any (same (part s a p)) (table-of s begins ends n))
-
 -- the hash of bytes
 unfoldable pub hash-from : ℕ → List ℕ → ℕ
 hash-from h [] = h % 4096
@@ -32,13 +27,6 @@ hash-from h (b ∷ w) = hash-from ((h * 37 + b) % 65536) w
 
 unfoldable pub hash-of : List ℕ → ℕ
 hash-of w = hash-from 0 w
-
--- such a token is kept as the next name, with a hint
-pub record Noted (s begins ends hints : List ℕ) (n k a p : ℕ) (begins' ends' hints' : List ℕ) (r : ℕ) : Type 0 where
-  pub begins-is : begins' ≡ (if is-new s begins ends n k a p then set-word begins n a else begins)
-  pub ends-is : ends' ≡ (if is-new s begins ends n k a p then set-word ends n p else ends)
-  pub hints-are : hints' ≡ (if is-new s begins ends n k a p then set-word hints (hash-of (part s a p)) (n + 1) else hints)
-  pub count-is : r ≡ (if is-new s begins ends n k a p then n + 1 else n)
 
 -- the part from a up to p is name r; where it was none of the first n, it is kept as name n, with a hint
 pub record KeptAs (s begins ends hints : List ℕ) (n a p : ℕ) (begins' ends' hints' : List ℕ) (r : ℕ) : Type 0 where

@@ -18,7 +18,7 @@ use Rattle.token.specs.Reading.{operator-kind, fixed-kind, token-kind, token-of
 use Rattle.token.specs.declared.TokenRead.{TokenRead}
 use Rattle.token.proofs.KindNumbers.{kind-is}
 use Rattle.token.proofs.Answers.{spot-of, tokens-at-end, tokens-at-none, tokens-at-token}
-use Rattle.token_cache.specs.Cache.{Cached, CanStore, CanEnd}
+use Rattle.token_cache.specs.Cache.{Cached, CanEnd}
 use Rattle.scan.specs.Scan.{nesting-refusal, tokens-refusal, depth-after, last-refusal, NotHuge}
 
 less-one : (n : ℕ) → pred n ≡ n - 1
@@ -157,10 +157,6 @@ module _ (c : Classes) (s : List ℕ) (at n high : ℕ) (i : Scanning c s at n h
       ends : (bs : List ℕ) → bs ≡ [] → next c bs ≡ end
       ends bs e = rw e
 
--- what was read can be stored
-module _ (c s : List ℕ) (at : ℕ) (r : TokenRead) (cached : Cached c s) (found : TokenAt class s at r) where
-  pub scan-store : (k a p w : ℕ) → r ≡ TokenRead.Token k a p w → CanStore c s at k a p w
-  scan-store k a p w is = record { cached = cached; read = subst (TokenAt class s at) is found }
-
-  pub scan-store-end : r ≡ TokenRead.End → CanEnd c s at
-  scan-store-end is = record { cached = cached; read = subst (TokenAt class s at) is found }
+-- the end that was read can be stored
+pub scan-store-end : (c s : List ℕ) (at : ℕ) (r : TokenRead) → Cached c s → TokenAt class s at r → r ≡ TokenRead.End → CanEnd c s at
+scan-store-end c s at r cached found is = record { cached = cached; read = subst (TokenAt class s at) is found }

@@ -154,17 +154,17 @@ module _ (s places : List ℕ) (m at : ℕ) (i : Placing s places m at) where
 string-inj : {v w : List ℕ} → Token.string v ≡ Token.string w → v ≡ w
 string-inj e = cc
 
-module _ (s : List ℕ) (at : ℕ) (w : List ℕ) (x : StringAt s at w) (r : TokenRead) (found : TokenAt class s at r) where
-  pub string-there : OneOf (0 ∷ 1 ∷ []) (tagOf the-type r) → ⊥
-  unfolding meant
-  string-there o = go r (sym (found .says) ∙ x .is) o
-    where
-      go : (q : TokenRead) → meant s q ≡ token (Token.string w) (x .left) → OneOf (0 ∷ 1 ∷ []) (tagOf the-type q) → ⊥
-      go TokenRead.End e o = end≢token e
-      go TokenRead.NoToken e o = no-token≢token e
-      go (TokenRead.Token k a p v) e o = miss (0 ∷ 1 ∷ []) 2 tt o
+-- what is read where a string stands is a token with its bytes between the quotes
+pub record ReadAgain (s w : List ℕ) (r : TokenRead) : Type 0 where
+  pub kind : ℕ
+  pub begin : ℕ
+  pub end : ℕ
+  pub value : ℕ
+  pub is : r ≡ TokenRead.Token kind begin end value
+  pub bytes : w ≡ part s (begin + 1) (end - 1)
 
-  pub string-is : (k a p v : ℕ) → r ≡ TokenRead.Token k a p v → w ≡ part s (a + 1) (p - 1)
+module _ (s : List ℕ) (at : ℕ) (w : List ℕ) (x : StringAt s at w) (r : TokenRead) (found : TokenAt class s at r) where
+  string-is : (k a p v : ℕ) → r ≡ TokenRead.Token k a p v → w ≡ part s (a + 1) (p - 1)
   unfolding meant token-of token-kind
   string-is k a p v h = string-inj (same ∙ rw kind)
     where
@@ -173,3 +173,12 @@ module _ (s : List ℕ) (at : ℕ) (w : List ℕ) (x : StringAt s at w) (r : Tok
 
       kind : k ≡ 27
       kind = sym (kind-is s a p v k (spot-of r (found .on) h .known)) ∙ ap token-kind (sym same)
+
+  pub string-read : ReadAgain s w r
+  unfolding meant
+  string-read = go r refl (sym (found .says) ∙ x .is)
+    where
+      go : (q : TokenRead) → r ≡ q → meant s q ≡ token (Token.string w) (x .left) → ReadAgain s w r
+      go TokenRead.End h e = absurd (end≢token e)
+      go TokenRead.NoToken h e = absurd (no-token≢token e)
+      go (TokenRead.Token k a p v) h e = record { kind = k; begin = a; end = p; value = v; is = h; bytes = string-is k a p v h }

@@ -1,22 +1,22 @@
 -- Document 01, "Tokens and grammar": an entry of the cache is the token that was stored there, and has the note that was. Assumes nothing.
 use mathlib.Core.Path.{_≡_, refl, ap, sym, _∙_, subst}
-use mathlib.Core.Bool.{Bool, true, false}
+use mathlib.Core.Bool.{Bool, true, false, _&&_}
 use mathlib.Core.List.{List}
 use mathlib.Core.Logic.{_⊎_, inl, inr}
 use native.Mathlib.Omega.{arith}
 use native.Mathlib.Decide.{ℕ-discrete, decLe}
 use Prim.Native.Nat.{ℕ, suc, _/_, _%_, _<_, _≤_}
-use borrow.Author.Tests.{lt-ltb, eq-eqb, ne-eqb, eqb-true, eqb-false}
-use lib.Dec.{eqb}
+use borrow.Author.Tests.{lt-ltb, le-ltb, eq-eqb, ne-eqb, eqb-true, eqb-false, ltb-true}
+use lib.Dec.{eqb, ltb}
 use lib.ListN.{length, set, replicate, length-replicate, getD-replicate}
 use Rattle.framed.specs.Common.{if_then_else_}
 use Rattle.framed.specs.Bytes.{class}
 use Rattle.words.specs.Words.{word, set-word}
 use Rattle.words.proofs.Laws.{word-past, word-other, word-same, set-size}
-use Rattle.token.specs.Reading.{TokenAt}
+use Rattle.token.specs.Reading.{TokenAt, Spot}
 use Rattle.token.specs.declared.TokenRead.{TokenRead}
 use Rattle.token.proofs.Answers.{spot-of}
-use Rattle.token_cache.specs.Cache.{packed, held, note-of, note-at, unpacked, Small, Cached, CanStore, CanEnd, NotesFrom, Unnoted}
+use Rattle.token_cache.specs.Cache.{packed, held, note-of, note-at, unpacked, Small, Packs, with-entry, Cached, CanStore, CanEnd, NotesFrom, Unnoted}
 
 kind-back : (k a p w : ℕ) → Small k a p w → packed k a p w % 32 ≡ k
 unfolding packed
@@ -44,13 +44,6 @@ unfolding note-of
 note-back k a p w h = rw (kind-back k a p w h, word-back k a p w h)
 
 -- only an integer has a word, so no name has one
-word-kept : (k w : ℕ) → ((k ≡ 26 → ⊥) → w ≡ 0) → (if eqb k 26 then w else 0) ≡ w
-word-kept k w plain = go (eqb k 26) refl
-  where
-    go : (t : Bool) → eqb k 26 ≡ t → (if t then w else 0) ≡ w
-    go true h = refl
-    go false h = sym (plain (eqb-false k 26 h))
-
 no-word : (k w : ℕ) → ((k ≡ 26 → ⊥) → w ≡ 0) → (if eqb k 25 then w else 0) ≡ 0
 no-word k w plain = go (eqb k 25) refl
   where
@@ -73,12 +66,30 @@ large : (k a p w : ℕ) → a < p → 31 < packed k a p w
 unfolding packed
 large k a p w l = omega arith
 
--- ---- What a call of `store` needs and leaves
+-- ---- An entry is set
 
-pub fits : (c s : List ℕ) (at k a p w : ℕ) → CanStore c s at k a p w → p < 32768 → w < 536870912 → Small k a p w
-fits c s at k a p w h end word =
-    let x = spot-of (TokenRead.Token k a p w) (h .read .on) refl in
-    record { kind = omega (arith, x .known); begin = omega (arith, x .more); end = end; word-small = word }
+module _ (c : List ℕ) (at k a p x : ℕ) where
+  pub set-far : 16384 ≤ at → c ≡ with-entry c at k a p x
+  unfolding with-entry
+  set-far l = rw (le-ltb at 16384 l)
+
+  module _ (lt : at < 16384) where
+    pub set-long : 32768 ≤ p → c ≡ with-entry c at k a p x
+    unfolding with-entry
+    set-long l = rw (lt-ltb at 16384 lt, le-ltb p 32768 l)
+
+    module _ (end : p < 32768) where
+      pub set-large : 536870912 ≤ x → c ≡ with-entry c at k a p x
+      unfolding with-entry
+      set-large l = rw (lt-ltb at 16384 lt, lt-ltb p 32768 end, le-ltb x 536870912 l)
+
+      module _ (small : x < 536870912) where
+        pub set-small : Packs k a p → Small k a p x
+        set-small h = record { kind = h .kind; begin = omega (arith, h .order); end = end; word-small = small }
+
+        pub set-here : (e : ℕ) → e ≡ packed k a p x → set c at e ≡ with-entry c at k a p x
+        unfolding with-entry set-word
+        set-here e is = rw (lt-ltb at 16384 lt, lt-ltb p 32768 end, lt-ltb x 536870912 small, is)
 
 -- an entry that stands for what is at its position
 kept : (c s : List ℕ) (at e : ℕ) → Cached c s → at < 16384 → TokenAt class s at (unpacked e) → Cached (set c at e) s
@@ -110,18 +121,68 @@ pub notes-same : (c : List ℕ) (at g : ℕ) → NotesFrom c c at g
 notes-same c at g = record { from = λ j h n. inl n }
 
 -- the entry of a token
-entry-is : (k a p w : ℕ) → a < p → Small k a p w → (e : ℕ) → e ≡ packed k a p w → unpacked e ≡ TokenRead.Token k a p (if eqb k 26 then w else 0)
-entry-is k a p w l small e is = ap unpacked is ∙ above (packed k a p w) (large k a p w l) ∙ held-back k a p w small
+entry-is : (k a p w : ℕ) → a < p → Small k a p w → unpacked (packed k a p w) ≡ TokenRead.Token k a p (if eqb k 26 then w else 0)
+entry-is k a p w l small = above (packed k a p w) (large k a p w l) ∙ held-back k a p w small
 
-module _ (c s : List ℕ) (at k a p w : ℕ) (h : CanStore c s at k a p w) (lt : at < 16384) where
-  pub stored : (e : ℕ) → Small k a p w → e ≡ packed k a p w → Cached (set c at e) s
-  stored e small is = kept c s at e (h .cached) lt (subst (TokenAt class s at) (sym token-is) (h .read))
-    where
-      token-is : unpacked e ≡ TokenRead.Token k a p w
-      token-is = entry-is k a p w (spot-of (TokenRead.Token k a p w) (h .read .on) refl .more) small e is ∙ ap (TokenRead.Token k a p) (word-kept k w (h .read .plain refl))
+no-integer : {x w : ℕ} → _≡_ {A = ℕ} 25 26 → x ≡ w
+no-integer z = absurd (omega arith)
 
-  pub stored-notes : (e : ℕ) → Small k a p w → e ≡ packed k a p w → NotesFrom c (set c at e) at 0
-  stored-notes e small is = noted c at e 0 (omega (arith, h .cached .entries)) (ap note-of is ∙ note-back k a p w small ∙ no-word k w (h .read .plain refl))
+-- ---- What `store` and `store_name` need and leave
+
+module _ (c s : List ℕ) (at k a p w : ℕ) (h : CanStore c s at k a p w) where
+  spot : Spot at (length s) k a p
+  spot = spot-of (TokenRead.Token k a p w) (h .read .on) refl
+
+  pub store-packs : Packs k a p
+  store-packs = record { kind = omega (arith, spot .known); order = spot .more }
+
+  -- with x as the last part: an integer's is its word
+  module _ (x : ℕ) (integer : k ≡ 26 → x ≡ w) where
+    last-word : (if eqb k 26 then x else 0) ≡ w
+    last-word = go (eqb k 26) refl
+      where
+        go : (t : Bool) → eqb k 26 ≡ t → (if t then x else 0) ≡ w
+        go true q = integer (eqb-true k 26 q)
+        go false q = sym (h .read .plain refl (eqb-false k 26 q))
+
+    record Sets (c' : List ℕ) : Type 0 where
+      cached : Cached c' s
+      notes : NotesFrom c c' at (if eqb k 25 then x else 0)
+
+    sets : (c' : List ℕ) → c' ≡ with-entry c at k a p x → Sets c'
+    unfolding with-entry set-word
+    sets c' = go (ltb at 16384) (ltb p 32768) (ltb x 536870912) refl refl refl
+      where
+        same : c' ≡ c → Sets c'
+        same q = record { cached = rw q (h .cached); notes = rw q (notes-same c at (if eqb k 25 then x else 0)) }
+
+        go : (t u v : Bool) → ltb at 16384 ≡ t → ltb p 32768 ≡ u → ltb x 536870912 ≡ v → c' ≡ (if t && (u && v) then set-word c at (packed k a p x) else c) → Sets c'
+        go true true true et eu ev q =
+            let small : Small k a p x = record { kind = omega (arith, spot .known); begin = omega (arith, spot .more, ltb-true p 32768 eu); end = ltb-true p 32768 eu; word-small = ltb-true x 536870912 ev } in
+            rw q (record {
+              cached = kept c s at (packed k a p x) (h .cached) (ltb-true at 16384 et) (subst (TokenAt class s at) (sym (entry-is k a p x (spot .more) small ∙ ap (TokenRead.Token k a p) last-word)) (h .read));
+              notes = noted c at (packed k a p x) (if eqb k 25 then x else 0) (omega (arith, h .cached .entries, ltb-true at 16384 et)) (note-back k a p x small);
+            })
+        go true true false et eu ev q = same q
+        go true false v et eu ev q = same q
+        go false u v et eu ev q = same q
+
+  module _ (c' : List ℕ) (is : c' ≡ with-entry c at k a p w) where
+    pub stored : Cached c' s
+    stored = sets w (λ q. refl) c' is .cached
+
+    pub stored-notes : NotesFrom c c' at 0
+    stored-notes = subst (NotesFrom c c' at) (no-word k w (h .read .plain refl)) (sets w (λ q. refl) c' is .notes)
+
+module _ (c s : List ℕ) (at a p w g : ℕ) (h : CanStore c s at 25 a p w) (c' : List ℕ) (is : c' ≡ with-entry c at 25 a p g) where
+  name-sets : Sets c s at 25 a p w h g no-integer c'
+  name-sets = sets c s at 25 a p w h g no-integer c' is
+
+  pub name-stored : Cached c' s
+  name-stored = name-sets .cached
+
+  pub name-notes : NotesFrom c c' at g
+  name-notes = name-sets .notes
 
 pub stored-end : (c s : List ℕ) (at : ℕ) → CanEnd c s at → at < 16384 → Cached (set c at 31) s
 unfolding unpacked
@@ -130,26 +191,6 @@ stored-end c s at h lt = kept c s at 31 (h .cached) lt (h .read)
 pub end-notes : (c s : List ℕ) (at : ℕ) → CanEnd c s at → at < 16384 → NotesFrom c (set c at 31) at 0
 unfolding note-of
 end-notes c s at h lt = noted c at 31 0 (omega (arith, h .cached .entries)) refl
-
--- ---- What a call of `store_name` needs and leaves
-
-module _ (c s : List ℕ) (at a p w g : ℕ) (h : CanStore c s at 25 a p w) where
-  pub name-fits : p < 32768 → g < 536870912 → Small 25 a p g
-  name-fits end small =
-      let x = spot-of (TokenRead.Token 25 a p w) (h .read .on) refl in
-      record { kind = omega arith; begin = omega (arith, x .more); end = end; word-small = small }
-
-  pub name-stored : at < 16384 → Small 25 a p g → (e : ℕ) → e ≡ packed 25 a p g → Cached (set c at e) s
-  name-stored lt small e is = kept c s at e (h .cached) lt (subst (TokenAt class s at) (sym token-is) (h .read))
-    where
-      no-integer : _≡_ {A = ℕ} 25 26 → ⊥
-      no-integer z = omega arith
-
-      token-is : unpacked e ≡ TokenRead.Token 25 a p w
-      token-is = entry-is 25 a p g (spot-of (TokenRead.Token 25 a p w) (h .read .on) refl .more) small e is ∙ ap (TokenRead.Token 25 a p) (sym (h .read .plain refl no-integer))
-
-  pub name-notes : at < 16384 → Small 25 a p g → (e : ℕ) → e ≡ packed 25 a p g → NotesFrom c (set c at e) at g
-  name-notes lt small e is = noted c at e g (omega (arith, h .cached .entries)) (ap note-of is ∙ note-back 25 a p g small)
 
 -- ---- What a cache says
 

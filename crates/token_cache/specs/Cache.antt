@@ -1,5 +1,6 @@
 -- Document 01, "Tokens and grammar": tokens of a source kept by the position at which they were read. Assumes nothing.
 use mathlib.Core.Path.{_≡_}
+use mathlib.Core.Bool.{_&&_}
 use mathlib.Core.List.{List}
 use mathlib.Core.Logic.{_⊎_}
 use Prim.Native.Nat.{ℕ, suc, _+_, _*_, _/_, _%_, _<_}
@@ -7,7 +8,7 @@ use lib.Dec.{eqb, ltb}
 use lib.ListN.{length}
 use Rattle.framed.specs.Common.{if_then_else_}
 use Rattle.framed.specs.Bytes.{class}
-use Rattle.words.specs.Words.{word}
+use Rattle.words.specs.Words.{word, set-word}
 use Rattle.token.specs.Reading.{TokenAt}
 use Rattle.token.specs.declared.TokenRead.{TokenRead}
 
@@ -36,6 +37,15 @@ pub record Small (k a p w : ℕ) : Type 0 where
   pub begin : a < 32768
   pub end : p < 32768
   pub word-small : w < 536870912
+
+-- a kind, and a begin before its end
+pub record Packs (k a p : ℕ) : Type 0 where
+  pub kind : k < 32
+  pub order : a < p
+
+-- the entry of a position is set, where it has room
+unfoldable pub with-entry : List ℕ → ℕ → ℕ → ℕ → ℕ → ℕ → List ℕ
+with-entry c at k a p x = if ltb at 16384 && (ltb p 32768 && ltb x 536870912) then set-word c at (packed k a p x) else c
 
 -- each entry that is not 0 stands for what is at its position
 pub record Cached (c s : List ℕ) : Type 0 where

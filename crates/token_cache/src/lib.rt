@@ -6,7 +6,7 @@ ghost use Rattle.framed.specs.Common.{if_then_else_};
 ghost use Rattle.framed.specs.Bytes.{class};
 ghost use Rattle.words.specs.Words.{word};
 ghost use Rattle.token.specs.Reading.{TokenAt};
-ghost use Rattle.token_cache.specs.Cache.{Cached, CanStore, CanEnd, Small, NotesFrom, held, packed, note-at};
+ghost use Rattle.token_cache.specs.Cache.{Cached, CanStore, CanEnd, Small, Packs, NotesFrom, held, packed, with-entry, note-at};
 use token::TokenRead;
 
 // What an entry holds above kind, begin and end, where its kind is k, else 0.
@@ -75,11 +75,10 @@ pub fn note(c: &[u64; 16384], at: usize) -> u32
     last_of(e, 25)
 }
 
-// Keeps the token that was read at a position, without a note, where its entry has room for it.
-pub fn store(c: &mut [u64; 16384], s: &[u8], at: usize, k: u32, a: usize, p: usize, w: u32)
-    requires { ⌜ CanStore (now c) (now s) at k a p w ⌝ }
-    ensures cached { λ _. ⌜ Cached (now (c .exit)) (now (s .entry)) ⌝ }
-    ensures notes { λ _. ⌜ NotesFrom (now (c .entry)) (now (c .exit)) at 0 ⌝ }
+// Sets the entry of a position, where there is room for its parts; the last is an integer's word or a name's note.
+fn set_entry(c: &mut [u64; 16384], at: usize, k: u32, a: usize, p: usize, x: u32)
+    requires { ⌜ Packs k a p ⌝ }
+    ensures { λ _. ⌜ now (c .exit) ≡ with-entry (now (c .entry)) at k a p x ⌝ }
 {
     if 16384 <= at {
         return;
@@ -87,10 +86,19 @@ pub fn store(c: &mut [u64; 16384], s: &[u8], at: usize, k: u32, a: usize, p: usi
     if 32768 <= p {
         return;
     }
-    if 536870912 <= w {
+    if 536870912 <= x {
         return;
     }
-    c[at] = pack(k, a, p, w);
+    c[at] = pack(k, a, p, x);
+}
+
+// Keeps the token that was read at a position, without a note, where its entry has room for it.
+pub fn store(c: &mut [u64; 16384], s: &[u8], at: usize, k: u32, a: usize, p: usize, w: u32)
+    requires { ⌜ CanStore (now c) (now s) at k a p w ⌝ }
+    ensures cached { λ _. ⌜ Cached (now (c .exit)) (now (s .entry)) ⌝ }
+    ensures notes { λ _. ⌜ NotesFrom (now (c .entry)) (now (c .exit)) at 0 ⌝ }
+{
+    set_entry(c, at, k, a, p, w);
 }
 
 // Keeps the name that was read at a position, with the note g, where its entry has room for them.
@@ -99,16 +107,7 @@ pub fn store_name(c: &mut [u64; 16384], s: &[u8], at: usize, a: usize, p: usize,
     ensures cached { λ _. ⌜ Cached (now (c .exit)) (now (s .entry)) ⌝ }
     ensures notes { λ _. ⌜ NotesFrom (now (c .entry)) (now (c .exit)) at g ⌝ }
 {
-    if 16384 <= at {
-        return;
-    }
-    if 32768 <= p {
-        return;
-    }
-    if 536870912 <= g {
-        return;
-    }
-    c[at] = pack(25, a, p, g);
+    set_entry(c, at, 25, a, p, g);
 }
 
 // Keeps that the source has no more tokens from a position on.

@@ -1,29 +1,17 @@
-use Rattle.token_cache.proofs.Laws.{fits, stored, stored-notes, notes-same}
-use borrow.Author.Needs.{needs}
+use Rattle.token_cache.proofs.Laws.{store-packs, stored, stored-notes}
 use Rattle.token_cache.proofs.store.Statement.{statement}
 use Rattle.token_cache.proofs.store.Tie as tie
+use Rattle.token_cache.proofs.store.Reads as reads
+use Rattle.token_cache.proofs.store.Lts as lts
+use Rattle.token_cache.proofs.set_entry.Reads as set-entry-reads
 
+-- src/lib.rt:101:5
+set-entry-requires : tie.Need-set-entry-requires
+set-entry-requires c κs = search store-packs
+
+-- src/lib.rt:96:1
 returns : tie.Need-returns
-returns c = search (needs, notes-same)
-
-returns-2 : tie.Need-returns-2
-returns-2 c = search (needs, notes-same)
-
-returns-3 : tie.Need-returns-3
-returns-3 c = search (needs, notes-same)
-
-pack-requires : tie.Need-pack-requires
-pack-requires c κs = search fits
-
-mul-c : tie.Need-mul-c
-mul-c c = search needs
-
-element-write-c : tie.Need-element-write-c
-element-write-c c = search needs
-
-returns-4 : tie.Need-returns-4
-returns-4 c = search (stored, stored-notes, fits)
+returns c = (search stored, search stored-notes)
 
 pub store-spec : {M : Type 1} → statement M
-store-spec =
-    tie.close (tie.spec returns returns-2 returns-3 pack-requires mul-c element-write-c returns-4)
+store-spec = tie.close (tie.spec set-entry-requires returns)
