@@ -13,7 +13,7 @@ pub enum Arithmetic {
 }
 
 // The number, where it fits 32 bits; else end 33.
-pub fn exact(n: i64) -> Arithmetic
+fn exact(n: i64) -> Arithmetic
     ensures { λ r. ⌜ outcome r ≡ ranged n ⌝ }
 {
     if n < -2147483648 {

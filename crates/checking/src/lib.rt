@@ -13,7 +13,7 @@ ghost use Rattle.checking.specs.Checking.{ChecksExpression, ChecksSlots,
 ghost use Rattle.checking.specs.Checking.{operation-end, base-in, single-end, expression-end, slots-end, assign-end};
 
 // The two operands, then the operator.
-pub fn check_operation<'a>(
+fn check_operation<'a>(
     p: &[u32],
     l: &'a [u8],
     h: &[u32],
@@ -35,7 +35,7 @@ pub fn check_operation<'a>(
 }
 
 // The base of expression x: the operand of `!`, or x itself.
-pub fn base_in(x: u32, e: ExpressionEntry) -> u32
+fn base_in(x: u32, e: ExpressionEntry) -> u32
     ensures { λ r. ⌜ r ≡ base-in x e ⌝ }
 {
     let ExpressionEntry::Not(a) = e else {
@@ -45,7 +45,7 @@ pub fn base_in(x: u32, e: ExpressionEntry) -> u32
 }
 
 // An expression that is no frame literal.
-pub fn check_single<'a>(
+fn check_single<'a>(
     p: &[u32],
     l: &'a [u8],
     h: &[u32],
@@ -62,7 +62,7 @@ pub fn check_single<'a>(
     check_operation(p, l, h, t, o, a, b)
 }
 
-pub fn check_expression<'a>(p: &[u32], l: &'a [u8], h: &[u32], t: &'a [u8], x: u32) -> u32
+fn check_expression<'a>(p: &[u32], l: &'a [u8], h: &[u32], t: &'a [u8], x: u32) -> u32
     requires { ⌜ ChecksExpression (now p) (now l) (now h) (now t) x ⌝ }
     ensures { λ r. ⌜ r ≡ expression-end (now (p .entry)) (now (l .entry)) (now (h .entry)) (now (t .entry)) x ⌝ }
 {
@@ -74,7 +74,7 @@ pub fn check_expression<'a>(p: &[u32], l: &'a [u8], h: &[u32], t: &'a [u8], x: u
 }
 
 // The slots from a place on, in order; a base (kinds 0 to 4) is looked at here.
-pub fn check_slots<'a>(p: &[u32], l: &'a [u8], h: &[u32], t: &'a [u8], from: u32) -> u32
+fn check_slots<'a>(p: &[u32], l: &'a [u8], h: &[u32], t: &'a [u8], from: u32) -> u32
     requires { ⌜ ChecksSlots (now p) (now l) (now h) (now t) from ⌝ }
     ensures { λ r. ⌜ r ≡ slots-end (now (p .entry)) (now (l .entry)) (now (h .entry)) (now (t .entry)) from ⌝ }
 {
@@ -99,7 +99,7 @@ pub fn check_slots<'a>(p: &[u32], l: &'a [u8], h: &[u32], t: &'a [u8], from: u32
 }
 
 // The expression, then the path from root.
-pub fn check_assign<'a>(
+fn check_assign<'a>(
     p: &[u32],
     l: &'a [u8],
     h: &[u32],

@@ -9,7 +9,7 @@ ghost use Rattle.collector.specs.Collect.{sweep-frames, sweep-texts, mar
 ghost use Rattle.collector.specs.Collected.{Collected};
 
 // Takes every frame that is not marked out of use.
-pub fn sweep_frames(h: &mut [u32], marks: &[u8; 512])
+fn sweep_frames(h: &mut [u32], marks: &[u8; 512])
     ensures { λ _. ⌜ now (h .exit) ≡ sweep-frames (now (marks .entry)) (now (h .entry)) ⌝ }
 {
     let mut f = 0u32;
@@ -22,7 +22,7 @@ pub fn sweep_frames(h: &mut [u32], marks: &[u8; 512])
 }
 
 // The same of made texts.
-pub fn sweep_texts(h: &mut [u32], marks: &[u8; 512])
+fn sweep_texts(h: &mut [u32], marks: &[u8; 512])
     ensures { λ _. ⌜ now (h .exit) ≡ sweep-texts (now (marks .entry)) (now (h .entry)) ⌝ }
 {
     let mut k = 0u32;

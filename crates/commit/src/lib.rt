@@ -12,7 +12,7 @@ ghost use Rattle.heap.specs.Words.{set-position};
 ghost use Rattle.tables.specs.Fields.{instruction-after};
 
 // Put along the n path names from j on; nothing where no rule applies.
-pub fn put(p: &[u32], h: &mut [u32], root: Value, j: u32, n: u32, v: Value)
+fn put(p: &[u32], h: &mut [u32], root: Value, j: u32, n: u32, v: Value)
     ensures { λ _. ⌜ now (h .exit) ≡ put-along (now (p .entry)) (now (h .entry)) root j n v ⌝ }
 {
     let PutTarget::At(f, name) = puts::put_target(p, h, root, j, n) else {
@@ -78,7 +78,7 @@ pub fn first_place(p: &[u32], k: u32) -> u32
 }
 
 // The first operand's code replaces the rest, and self becomes the second operand.
-pub fn jump(p: &[u32], l: &[u8], h: &mut [u32], a: u32, c: u32)
+fn jump(p: &[u32], l: &[u8], h: &mut [u32], a: u32, c: u32)
     requires { ⌜ CanJump (now p) (now l) (now h) a c ⌝ }
     ensures { λ _. ⌜ Jumps (now (p .entry)) (now (l .entry)) (now (h .entry)) a c (now (h .exit)) ⌝ }
 {

@@ -11,7 +11,7 @@ ghost use Rattle.emit_names.specs.Table.{Ready, NameAt, write-kept};
 use words::wide;
 
 // The number of the part from a up to p among the first n names kept; n where it is none of them. Where the hint leads to the name itself, no other is looked at.
-pub fn number_at(
+fn number_at(
     s: &[u8],
     begins: &[usize],
     ends: &[usize],

@@ -15,7 +15,7 @@ pub fn claim(h: &mut [u32], low: u32) -> u32
 }
 
 // The value of an expression that is no frame literal; the made texts below `low` are in use.
-pub fn flat(p: &[u32], l: &[u8], h: &mut [u32], t: &mut [u8], x: u32, low: u32) -> Value
+fn flat(p: &[u32], l: &[u8], h: &mut [u32], t: &mut [u8], x: u32, low: u32) -> Value
     requires { ⌜ Flat (now p) (now l) (now h) (now t) x ⌝ }
     requires { ⌜ TextsFull (now h) low ⌝ }
     ensures { λ r. ⌜ Evaluates (now (p .entry)) (now (l .entry)) (now (h .entry)) (now (t .entry)) x r (now (h .exit)) (now (t .exit)) ⌝ }
@@ -27,15 +27,7 @@ pub fn flat(p: &[u32], l: &[u8], h: &mut [u32], t: &mut [u8], x: u32, low: u32) 
 }
 
 // The value of an expression. A frame literal claims its frame first, then its slots are filled in.
-pub fn evaluate(
-    p: &[u32],
-    l: &[u8],
-    h: &mut [u32],
-    t: &mut [u8],
-    x: u32,
-    low: u32,
-    least: u32,
-) -> Value
+fn evaluate(p: &[u32], l: &[u8], h: &mut [u32], t: &mut [u8], x: u32, low: u32, least: u32) -> Value
     requires { ⌜ CanEvaluate (now p) (now l) (now h) (now t) x ⌝ }
     requires { ⌜ Full (now h) low least ⌝ }
     ensures { λ r. ⌜ Evaluates (now (p .entry)) (now (l .entry)) (now (h .entry)) (now (t .entry)) x r (now (h .exit)) (now (t .exit)) ⌝ }
@@ -79,7 +71,7 @@ pub fn fill(
 }
 
 // The bases (kinds 0 to 4) from a place on, pushed on frame f, up to a slot that is no base: its place, 0 where none is left.
-pub fn fill_bases(p: &[u32], h: &mut [u32], f: u32, from: u32) -> u32
+fn fill_bases(p: &[u32], h: &mut [u32], f: u32, from: u32) -> u32
     ensures { λ r. ⌜ FillsBases (now (p .entry)) f (now (h .entry)) from r (now (h .exit)) ⌝ }
 {
     let mut z = from;

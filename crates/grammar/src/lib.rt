@@ -12,7 +12,7 @@ pub enum Found {
 }
 
 // One token whose kind is lo to hi.
-pub fn expect(c: &[u64; 16384], s: &[u8], at: usize, lo: u32, hi: u32) -> Found
+fn expect(c: &[u64; 16384], s: &[u8], at: usize, lo: u32, hi: u32) -> Found
     requires { ⌜ Cached (now c) (now s) × KindsOk lo hi ⌝ }
     ensures { λ r. ⌜ Expects (now (s .entry)) lo hi at r ⌝ }
 {

@@ -29,7 +29,7 @@ use Rattle.heap.proofs.Laws.{set-self-local, set-self-self, set-program
 use Rattle.heap.proofs.Laws.{set-slot-local, set-slot-is, set-slot-count, set-slot-name, set-slot-other}
 use Rattle.heap.proofs.Laws.{add-slot-is, add-slot-local, add-slot-count, add-slot-name, add-slot-value, add-slot-old-name, add-slot-old-value}
 use Rattle.heap.proofs.Laws.{take-frame-local, take-frame-used, take-frame-count, free-frame-local, free-frame-used}
-use Rattle.heap.proofs.Laws.{take-text-local, take-text-word, free-text-local, free-text-word, set-byte-is, set-byte-other}
+use Rattle.heap.proofs.Laws.{take-text-local, take-text-word, free-text-local, free-text-word, set-byte-other}
 
 -- ---- Reading
 
@@ -599,7 +599,7 @@ module _ (h : List ℕ) (s : Sized h) (k : ℕ) (hk : k < 256) where
   pub free-text-sized : Sized (free-text h k)
   free-text-sized = text-sized h _ s k hk free-text-within (rw (free-text-word h k (s .size) hk) (omega arith))
 
--- set_text_byte: inside the text's length it changes that byte of that text, past it nothing
+-- a byte of a text past its length changes nothing of what is held
 module _ (h t : List ℕ) (s : Sized h) (k i b : ℕ) (hk : k < 256) (hi : i < 64) where
   text-at-most : (j : ℕ) → j < 256 → text-length h j ≤ 64
   unfolding text-length
@@ -623,11 +623,3 @@ module _ (h t : List ℕ) (s : Sized h) (k i b : ℕ) (hk : k < 256) (hi : i < 6
       go : (j : ℕ) → j < 256 → Dec (j ≡ k) → text-held h (set-text-byte t k i b) j ≡ text-held h t j
       go j lt (yes e) = rw e here
       go j lt (no ne) = byte-others j lt ne
-
-  pub set-byte-inside : length t ≡ 16384 → i < text-length h k → texts-held h (set-text-byte t k i b) ≡ set (texts-held h t) k (set (text-held h t k) i b)
-  unfolding texts-held text-held
-  set-byte-inside size lt =
-      listed-set (text-held h t) (text-held h (set-text-byte t k i b)) 256 k (set (text-held h t k) i b) hk
-      (listed-set (text-byte t k) (text-byte (set-text-byte t k i b) k) (text-length h k) i b lt (set-byte-is t k i b size hk hi)
-      (λ j jl ne. set-byte-other t k i b k j hi (let m = text-at-most k hk in omega arith) (λ e e′. ne e′)))
-      byte-others

@@ -7,7 +7,7 @@ ghost use Rattle.heap.specs.Words.{value-of, tag-of, number-of, self-hel
 ghost use Rattle.heap.specs.Words.{frame-word, frame-used, slot-count-at, slot-name-at, slot-tag-at, slot-number-at, slot-value-at};
 ghost use Rattle.heap.specs.Words.{text-word, text-used, text-length, text-byte};
 ghost use Rattle.heap.specs.Words.{set-self, set-program, set-position, set-end-mark, set-slot-value, add-slot, take-frame, free-frame};
-ghost use Rattle.heap.specs.Words.{take-text, free-text, set-text-byte};
+ghost use Rattle.heap.specs.Words.{take-text, free-text};
 ghost use Rattle.heap.specs.Held.{frames-in-use, texts-in-use};
 
 // ---- A value as a tag and a number
@@ -198,7 +198,7 @@ pub fn free_frame(h: &mut [u32], f: u32)
 // ---- Made texts
 
 // 0 where the text is not in use, else 1 + its length.
-pub fn text_word(h: &[u32], k: u32) -> u32
+fn text_word(h: &[u32], k: u32) -> u32
     ensures { λ r. ⌜ r ≡ text-word (now (h .entry)) k ⌝ }
 {
     words::word(h, 13184 + words::wide(k))
@@ -241,12 +241,6 @@ pub fn free_text(h: &mut [u32], k: u32)
     ensures { λ _. ⌜ now (h .exit) ≡ free-text (now (h .entry)) k ⌝ }
 {
     words::set_word(h, 13184 + words::wide(k), 0);
-}
-
-pub fn set_text_byte(t: &mut [u8], k: u32, i: u32, b: u8)
-    ensures { λ _. ⌜ now (t .exit) ≡ set-text-byte (now (t .entry)) k i b ⌝ }
-{
-    words::set_byte(t, 64 * words::wide(k) + words::wide(i), b);
 }
 
 // ---- How many are in use

@@ -9,7 +9,7 @@ ghost use Rattle.texts.specs.Literals.{literals-held};
 ghost use Rattle.texts.specs.Texts.{Readable};
 ghost use Rattle.joining.specs.Joining.{joinable, join-end, join-bytes, join-written};
 
-pub fn joinable(v: Value) -> bool
+fn joinable(v: Value) -> bool
     ensures { λ r. ⌜ r ≡ joinable v ⌝ }
 {
     match v {
@@ -39,15 +39,7 @@ pub fn join_end(p: &[u32], h: &[u32], v: Value, w: Value) -> u32
 }
 
 // The bytes of the one, then those of the other, from the start of a buffer on.
-pub fn fill_join<'a>(
-    m: &mut [u8],
-    p: &[u32],
-    l: &'a [u8],
-    h: &[u32],
-    t: &'a [u8],
-    v: Value,
-    w: Value,
-)
+fn fill_join<'a>(m: &mut [u8], p: &[u32], l: &'a [u8], h: &[u32], t: &'a [u8], v: Value, w: Value)
     requires { ⌜ Readable (now p) (now l) (now h) (now t) ⌝ }
     ensures { λ _. ⌜ now (m .exit) ≡ splice (now (m .entry)) 0 (join-bytes (literals-held (now (p .entry)) (now (l .entry))) (texts-held (now (h .entry)) (now (t .entry))) v w) ⌝ }
 {

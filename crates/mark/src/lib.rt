@@ -8,7 +8,7 @@ ghost use Rattle.mark.specs.Mark.{work, Now, mark-text, visit-frame, vis
 ghost use Rattle.mark.specs.Asks.{AtText, AtFrame, Visitable, Starts, Scans};
 ghost use Rattle.mark.specs.Reached.{Exactly};
 
-pub fn mark_text(t: Text, marks: &mut [u8; 512])
+fn mark_text(t: Text, marks: &mut [u8; 512])
     requires { ⌜ AtText t ⌝ }
     ensures { λ _. ⌜ now (marks .exit) ≡ mark-text t (now (marks .entry)) ⌝ }
 {
@@ -19,7 +19,7 @@ pub fn mark_text(t: Text, marks: &mut [u8; 512])
 }
 
 // Marks the frame g and puts it into the queue, where it is not marked yet.
-pub fn visit_frame(g: u32, marks: &mut [u8; 512], order: &mut [u32; 256], tail: usize) -> usize
+fn visit_frame(g: u32, marks: &mut [u8; 512], order: &mut [u32; 256], tail: usize) -> usize
     requires { ⌜ AtFrame (work (now marks) (now order) tail) g ⌝ }
     ensures { λ r. ⌜ Now (visit-frame g (work (now (marks .entry)) (now (order .entry)) tail)) (now (marks .exit)) (now (order .exit)) r ⌝ }
 {
@@ -32,7 +32,7 @@ pub fn visit_frame(g: u32, marks: &mut [u8; 512], order: &mut [u32; 256], tail: 
     tail
 }
 
-pub fn visit(v: Value, marks: &mut [u8; 512], order: &mut [u32; 256], tail: usize) -> usize
+fn visit(v: Value, marks: &mut [u8; 512], order: &mut [u32; 256], tail: usize) -> usize
     requires { ⌜ Visitable (work (now marks) (now order) tail) v ⌝ }
     ensures { λ r. ⌜ Now (visit-value v (work (now (marks .entry)) (now (order .entry)) tail)) (now (marks .exit)) (now (order .exit)) r ⌝ }
 {
@@ -48,7 +48,7 @@ pub fn visit(v: Value, marks: &mut [u8; 512], order: &mut [u32; 256], tail: usiz
 }
 
 // Visits each value of the frame g.
-pub fn visit_slots(
+fn visit_slots(
     h: &[u32],
     g: u32,
     marks: &mut [u8; 512],
@@ -69,7 +69,7 @@ pub fn visit_slots(
 }
 
 // Visits self and program.
-pub fn mark_roots(h: &[u32], marks: &mut [u8; 512], order: &mut [u32; 256]) -> usize
+fn mark_roots(h: &[u32], marks: &mut [u8; 512], order: &mut [u32; 256]) -> usize
     requires { ⌜ Starts (now h) (work (now marks) (now order) 0) ⌝ }
     ensures { λ r. ⌜ Now (mark-roots (now (h .entry)) (work (now (marks .entry)) (now (order .entry)) 0)) (now (marks .exit)) (now (order .exit)) r ⌝ }
 {
@@ -78,7 +78,7 @@ pub fn mark_roots(h: &[u32], marks: &mut [u8; 512], order: &mut [u32; 256]) -> u
 }
 
 // Visits the values of each frame of the queue, which grows on the way.
-pub fn mark_queue(h: &[u32], marks: &mut [u8; 512], order: &mut [u32; 256], start: usize) -> usize
+fn mark_queue(h: &[u32], marks: &mut [u8; 512], order: &mut [u32; 256], start: usize) -> usize
     requires { ⌜ Starts (now h) (work (now marks) (now order) start) ⌝ }
     ensures { λ r. ⌜ Now (mark-queue (now (h .entry)) 256 0 (work (now (marks .entry)) (now (order .entry)) start)) (now (marks .exit)) (now (order .exit)) r ⌝ }
 {

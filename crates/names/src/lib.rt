@@ -27,7 +27,7 @@ pub fn set_place(m: &mut [usize], k: usize, v: usize)
 }
 
 // Two parts of the source are the same bytes.
-pub fn same_parts(s: &[u8], a: usize, p: usize, b: usize, q: usize) -> bool
+fn same_parts(s: &[u8], a: usize, p: usize, b: usize, q: usize) -> bool
     ensures { λ r. ⌜ r ≡ same (part (now (s .entry)) a p) (part (now (s .entry)) b q) ⌝ }
 {
     let v = token::token_bytes(s, a, p);

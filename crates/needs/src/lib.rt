@@ -10,7 +10,7 @@ ghost use Rattle.places.specs.Places.{AtExpression, AtSlots, AtInstruction};
 ghost use Rattle.needs.specs.Needs.{cap, both, summed, join-sign, RightSide};
 
 // a + b, counted up to 257
-pub fn capped(a: u32, b: u32) -> u32
+fn capped(a: u32, b: u32) -> u32
     ensures { λ r. ⌜ r ≡ cap (a + b) ⌝ }
 {
     if 257 <= words::wide(a) + words::wide(b) {
@@ -43,7 +43,7 @@ fn plus(a: u32, b: u32) -> u32
 }
 
 // 1 for an expression with `#`
-pub fn join_sign(e: ExpressionEntry) -> u32
+fn join_sign(e: ExpressionEntry) -> u32
     ensures { λ r. ⌜ r ≡ join-sign e ⌝ }
 {
     let ExpressionEntry::Operate(o, _, _) = e else {
@@ -56,7 +56,7 @@ pub fn join_sign(e: ExpressionEntry) -> u32
 }
 
 // f and t of expression x
-pub fn made_of(p: &[u32], x: u32) -> u32
+fn made_of(p: &[u32], x: u32) -> u32
     requires { ⌜ AtExpression (now p) x ⌝ }
     ensures { λ r. ⌜ r ≡ both (frame-literals (expression-held (now (p .entry)) x)) (join-signs (expression-held (now (p .entry)) x)) ⌝ }
 {
@@ -68,7 +68,7 @@ pub fn made_of(p: &[u32], x: u32) -> u32
 }
 
 // f and t of the slots from a place on; a base (kinds 0 to 4) has none
-pub fn made_in(p: &[u32], from: u32) -> u32
+fn made_in(p: &[u32], from: u32) -> u32
     requires { ⌜ AtSlots (now p) from ⌝ }
     ensures { λ r. ⌜ r ≡ both (frame-literals-in (slots-held (now (p .entry)) from)) (join-signs-in (slots-held (now (p .entry)) from)) ⌝ }
 {
@@ -85,7 +85,7 @@ pub fn made_in(p: &[u32], from: u32) -> u32
 }
 
 // the expression of instruction i: its right side, or its first operand
-pub fn right_side(p: &[u32], i: u32) -> u32
+fn right_side(p: &[u32], i: u32) -> u32
     requires { ⌜ AtInstruction (now p) i ⌝ }
     ensures { λ r. ⌜ RightSide (now (p .entry)) i r ⌝ }
 {

@@ -18,7 +18,7 @@ pub enum Operated {
 }
 
 // `+ - * / <` of two integers, kinds 7 to 11.
-pub fn integers(kind: u32, a: i32, b: i32) -> Arithmetic
+fn integers(kind: u32, a: i32, b: i32) -> Arithmetic
     ensures { λ r. ⌜ outcome r ≡ integer-operated kind a b ⌝ }
 {
     if kind == 7 {
@@ -74,7 +74,7 @@ pub fn compare<'a>(
     texts::truth(v) | texts::truth(w)
 }
 
-pub fn of_arithmetic(a: Arithmetic) -> Operated
+fn of_arithmetic(a: Arithmetic) -> Operated
     ensures { λ r. ⌜ r ≡ of-arithmetic a ⌝ }
 {
     match a {
@@ -83,7 +83,7 @@ pub fn of_arithmetic(a: Arithmetic) -> Operated
     }
 }
 
-pub fn of_join(end: u32) -> Operated
+fn of_join(end: u32) -> Operated
     ensures { λ r. ⌜ r ≡ of-join end ⌝ }
 {
     if end == 0 {
@@ -92,7 +92,7 @@ pub fn of_join(end: u32) -> Operated
     Operated::Ended(end)
 }
 
-pub fn of_flag(b: bool) -> Operated
+fn of_flag(b: bool) -> Operated
     ensures { λ r. ⌜ r ≡ of-flag b ⌝ }
 {
     if b {

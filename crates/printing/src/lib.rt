@@ -10,7 +10,7 @@ ghost use Rattle.framed.specs.Answers.{stop-word};
 ghost use Rattle.framed.specs.Framerun.{number, stop-bytes};
 ghost use Rattle.printing.specs.Lines.{refused-line, counts-line, end-line, ran-lines, Appends};
 
-pub fn append(m: &mut [u8], at: usize, s: &[u8]) -> usize
+fn append(m: &mut [u8], at: usize, s: &[u8]) -> usize
     requires { ⌜ at + length (now s) ≤ 9000 ⌝ }
     ensures { λ r. ⌜ Appends (now (m .entry)) at (now (s .entry)) (now (m .exit)) r ⌝ }
 {
@@ -18,7 +18,7 @@ pub fn append(m: &mut [u8], at: usize, s: &[u8]) -> usize
     at + s.len()
 }
 
-pub fn append_number(m: &mut [u8], at: usize, n: u32) -> usize
+fn append_number(m: &mut [u8], at: usize, n: u32) -> usize
     requires { ⌜ at + 11 ≤ 9000 ⌝ }
     ensures appends { λ r. ⌜ Appends (now (m .entry)) at (number n) (now (m .exit)) r ⌝ }
     ensures near { λ r. ⌜ r ≤ at + 11 ⌝ }
@@ -69,7 +69,7 @@ fn append_counts(m: &mut [u8], at: usize, steps: u32, frames: u32, texts: u32) -
 }
 
 // The last line of a run.
-pub fn append_end(m: &mut [u8], at: usize, stop: Stop, steps: u32, frames: u32, texts: u32) -> usize
+fn append_end(m: &mut [u8], at: usize, stop: Stop, steps: u32, frames: u32, texts: u32) -> usize
     requires { ⌜ at ≤ 4096 ⌝ }
     ensures { λ r. ⌜ Appends (now (m .entry)) at (end-line (stop-word stop) steps frames texts) (now (m .exit)) r ⌝ }
 {

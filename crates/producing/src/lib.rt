@@ -47,7 +47,7 @@ pub fn join(p: &[u32], l: &[u8], h: &mut [u32], t: &mut [u8], v: Value, w: Value
 }
 
 // What the operator of the kind gives between two values.
-pub fn produce(
+fn produce(
     p: &[u32],
     l: &[u8],
     h: &mut [u32],

@@ -160,7 +160,7 @@ fn names_ok(p: &[u32]) -> bool
 }
 
 // a byte that may stand in a string
-pub fn string_byte(b: u8) -> bool
+fn string_byte(b: u8) -> bool
     ensures { λ r. ⌜ r ≡ string-byte b ⌝ }
 {
     (32 <= b) & (b <= 126) & (b != 34)

@@ -10,7 +10,7 @@ ghost use Rattle.texts.specs.Texts.{Readable};
 ghost use Rattle.shown.specs.Shown.{shown-size};
 
 // How many bytes the decimal integer has.
-pub fn integer_size(n: i32) -> u32
+fn integer_size(n: i32) -> u32
     ensures { λ r. ⌜ r ≡ length (decimal n) ⌝ }
 {
     let mut bytes = [0u8; 11];
@@ -19,7 +19,7 @@ pub fn integer_size(n: i32) -> u32
 }
 
 // The decimal integer, written at a position.
-pub fn write_integer(m: &mut [u8], at: usize, n: i32)
+fn write_integer(m: &mut [u8], at: usize, n: i32)
     ensures { λ _. ⌜ now (m .exit) ≡ splice (now (m .entry)) at (decimal n) ⌝ }
 {
     let mut bytes = [0u8; 11];

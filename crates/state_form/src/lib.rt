@@ -16,19 +16,19 @@ pub struct Limits {
 
 // ---- Values
 
-pub fn frame_in_use(h: &[u32], f: u32) -> bool
+fn frame_in_use(h: &[u32], f: u32) -> bool
     ensures { λ r. ⌜ r ≡ frame-in-use (now (h .entry)) f ⌝ }
 {
     (f < 256) & heap::frame_used(h, f)
 }
 
-pub fn text_in_use(h: &[u32], k: u32) -> bool
+fn text_in_use(h: &[u32], k: u32) -> bool
     ensures { λ r. ⌜ r ≡ text-in-use (now (h .entry)) k ⌝ }
 {
     (k < 256) & heap::text_used(h, k)
 }
 
-pub fn value_formed(h: &[u32], limits: Limits, tag: u32, n: u32) -> bool
+fn value_formed(h: &[u32], limits: Limits, tag: u32, n: u32) -> bool
     ensures { λ r. ⌜ r ≡ value-formed (now (h .entry)) limits tag n ⌝ }
 {
     if tag == 0 {
@@ -46,7 +46,7 @@ pub fn value_formed(h: &[u32], limits: Limits, tag: u32, n: u32) -> bool
     (tag == 2) & text_in_use(h, n)
 }
 
-pub fn roots_formed(h: &[u32], limits: Limits) -> bool
+fn roots_formed(h: &[u32], limits: Limits) -> bool
     ensures { λ r. ⌜ r ≡ roots-formed (now (h .entry)) limits ⌝ }
 {
     value_formed(h, limits, words::word(h, 0), words::word(h, 1))
@@ -55,14 +55,14 @@ pub fn roots_formed(h: &[u32], limits: Limits) -> bool
 
 // ---- Frames
 
-pub fn name_apart(h: &[u32], f: u32, i: u32, j: u32) -> bool
+fn name_apart(h: &[u32], f: u32, i: u32, j: u32) -> bool
     ensures { λ r. ⌜ r ≡ name-apart (now (h .entry)) f i j ⌝ }
 {
     heap::slot_name(h, f, j) != heap::slot_name(h, f, i)
 }
 
 // No slot before slot i has its name.
-pub fn name_new(h: &[u32], f: u32, i: u32) -> bool
+fn name_new(h: &[u32], f: u32, i: u32) -> bool
     ensures { λ r. ⌜ r ≡ name-new (now (h .entry)) f i ⌝ }
 {
     let mut ok = true;
@@ -74,7 +74,7 @@ pub fn name_new(h: &[u32], f: u32, i: u32) -> bool
     ok
 }
 
-pub fn slot_formed(h: &[u32], limits: Limits, f: u32, i: u32) -> bool
+fn slot_formed(h: &[u32], limits: Limits, f: u32, i: u32) -> bool
     ensures { λ r. ⌜ r ≡ slot-formed (now (h .entry)) limits f i ⌝ }
 {
     (heap::slot_name(h, f, i) < limits.names)
@@ -87,7 +87,7 @@ pub fn slot_formed(h: &[u32], limits: Limits, f: u32, i: u32) -> bool
         & name_new(h, f, i)
 }
 
-pub fn slots_formed(h: &[u32], limits: Limits, f: u32, n: u32) -> bool
+fn slots_formed(h: &[u32], limits: Limits, f: u32, n: u32) -> bool
     ensures { λ r. ⌜ r ≡ slots-formed (now (h .entry)) limits f n ⌝ }
 {
     let mut ok = true;
@@ -100,7 +100,7 @@ pub fn slots_formed(h: &[u32], limits: Limits, f: u32, n: u32) -> bool
 }
 
 // Of a frame that is not in use nothing else is looked at.
-pub fn frame_formed(h: &[u32], limits: Limits, f: u32) -> bool
+fn frame_formed(h: &[u32], limits: Limits, f: u32) -> bool
     ensures { λ r. ⌜ r ≡ frame-formed (now (h .entry)) limits f ⌝ }
 {
     let w = heap::frame_word(h, f);
@@ -114,7 +114,7 @@ pub fn frame_formed(h: &[u32], limits: Limits, f: u32) -> bool
     (w == 1) & slots_formed(h, limits, f, n)
 }
 
-pub fn frames_formed(h: &[u32], limits: Limits) -> bool
+fn frames_formed(h: &[u32], limits: Limits) -> bool
     ensures { λ r. ⌜ r ≡ frames-formed (now (h .entry)) limits ⌝ }
 {
     let mut ok = true;
@@ -128,14 +128,14 @@ pub fn frames_formed(h: &[u32], limits: Limits) -> bool
 
 // ---- Made texts
 
-pub fn text_byte_formed(t: &[u8], k: u32, i: u32) -> bool
+fn text_byte_formed(t: &[u8], k: u32, i: u32) -> bool
     ensures { λ r. ⌜ r ≡ text-byte-formed (now (t .entry)) k i ⌝ }
 {
     let b = heap::text_byte(t, k, i);
     (32 <= b) & (b <= 126) & (b != 34)
 }
 
-pub fn text_bytes_formed(t: &[u8], k: u32, n: u32) -> bool
+fn text_bytes_formed(t: &[u8], k: u32, n: u32) -> bool
     ensures { λ r. ⌜ r ≡ text-bytes-formed (now (t .entry)) k n ⌝ }
 {
     let mut ok = true;
@@ -148,7 +148,7 @@ pub fn text_bytes_formed(t: &[u8], k: u32, n: u32) -> bool
 }
 
 // A text that is not in use has length 0.
-pub fn text_formed(h: &[u32], t: &[u8], k: u32) -> bool
+fn text_formed(h: &[u32], t: &[u8], k: u32) -> bool
     ensures { λ r. ⌜ r ≡ text-formed (now (h .entry)) (now (t .entry)) k ⌝ }
 {
     let n = heap::text_length(h, k);
@@ -158,7 +158,7 @@ pub fn text_formed(h: &[u32], t: &[u8], k: u32) -> bool
     text_bytes_formed(t, k, n)
 }
 
-pub fn texts_formed(h: &[u32], t: &[u8]) -> bool
+fn texts_formed(h: &[u32], t: &[u8]) -> bool
     ensures { λ r. ⌜ r ≡ texts-formed (now (h .entry)) (now (t .entry)) ⌝ }
 {
     let mut ok = true;
@@ -172,26 +172,26 @@ pub fn texts_formed(h: &[u32], t: &[u8]) -> bool
 
 // ---- Counts, position, end mark
 
-pub fn counts_formed(h: &[u32], limits: Limits) -> bool
+fn counts_formed(h: &[u32], limits: Limits) -> bool
     ensures { λ r. ⌜ r ≡ counts-formed (now (h .entry)) limits ⌝ }
 {
     (heap::count_frames(h) <= limits.frames) & (heap::count_texts(h) <= limits.texts)
 }
 
-pub fn position_formed(h: &[u32], limits: Limits) -> bool
+fn position_formed(h: &[u32], limits: Limits) -> bool
     ensures { λ r. ⌜ r ≡ position-formed (now (h .entry)) limits ⌝ }
 {
     heap::position(h) <= limits.instructions
 }
 
-pub fn end_formed(h: &[u32]) -> bool
+fn end_formed(h: &[u32]) -> bool
     ensures { λ r. ⌜ r ≡ end-formed (now (h .entry)) ⌝ }
 {
     let e = heap::end_mark(h);
     (e == 0) | ((31 <= e) & (e <= 37))
 }
 
-pub fn parts_formed(h: &[u32], t: &[u8], limits: Limits) -> bool
+fn parts_formed(h: &[u32], t: &[u8], limits: Limits) -> bool
     ensures { λ r. ⌜ r ≡ parts-formed (now (h .entry)) (now (t .entry)) limits ⌝ }
 {
     roots_formed(h, limits)

@@ -30,7 +30,7 @@ pub struct Tried {
 }
 
 // Room for what instruction i makes: 36, 37 or 0. One that makes nothing counts nothing.
-pub fn reserve_for(p: &[u32], h: &mut [u32], i: u32, k: Known) -> Reserved
+fn reserve_for(p: &[u32], h: &mut [u32], i: u32, k: Known) -> Reserved
     requires { ⌜ CanReserve (now p) (now h) i ⌝ }
     requires { ⌜ Knows (now h) 0 0 k ⌝ }
     ensures exact { λ r. ⌜ Reserves (now (p .entry)) (now (h .entry)) (frames-for (now (p .entry)) i) (texts-for (now (p .entry)) i) (r .end) (now (h .exit)) ⌝ }
@@ -44,7 +44,7 @@ pub fn reserve_for(p: &[u32], h: &mut [u32], i: u32, k: Known) -> Reserved
 }
 
 // The line of instruction i at a position of the buffer, where it fits behind it. Only a show has one.
-pub fn show<'a>(
+fn show<'a>(
     p: &[u32],
     l: &'a [u8],
     h: &[u32],

@@ -1,16 +1,15 @@
 // Program words and literal bytes: each field of docs/LAYOUT.md, written. Past the memory's end nothing is written.
 use tables::ExpressionEntry;
 use tables::InstructionEntry;
-use words::set_byte;
 use words::set_word;
 use words::wide;
 ghost use mathlib.Core.Path.{_≡_};
 ghost use Rattle.table_updates.specs.Encode.{expression-kind-of, expression-a-of, expression-b-of, instruction-kind-of, instruction-a-of, instruction-b-of, instruction-c-of};
 ghost use Rattle.table_updates.specs.Updates.{set-frame-limit, set-text-limit, set-names, set-literals, set-expressions, set-instructions, set-codes, set-path-names};
 ghost use Rattle.table_updates.specs.Updates.{set-program-slots, set-start, set-name-length, set-literal-length, set-code-first, set-path-name, set-instruction-link, set-slot-name};
-ghost use Rattle.table_updates.specs.Updates.{set-slot-link, set-name-byte, set-literal-byte, set-expression, set-instruction};
+ghost use Rattle.table_updates.specs.Updates.{set-slot-link, set-expression, set-instruction};
 
-pub fn expression_kind_of(e: ExpressionEntry) -> u32
+fn expression_kind_of(e: ExpressionEntry) -> u32
     ensures { λ r. ⌜ r ≡ expression-kind-of e ⌝ }
 {
     match e {
@@ -26,7 +25,7 @@ pub fn expression_kind_of(e: ExpressionEntry) -> u32
     }
 }
 
-pub fn expression_a_of(e: ExpressionEntry) -> u32
+fn expression_a_of(e: ExpressionEntry) -> u32
     ensures { λ r. ⌜ r ≡ expression-a-of e ⌝ }
 {
     match e {
@@ -42,7 +41,7 @@ pub fn expression_a_of(e: ExpressionEntry) -> u32
     }
 }
 
-pub fn expression_b_of(e: ExpressionEntry) -> u32
+fn expression_b_of(e: ExpressionEntry) -> u32
     ensures { λ r. ⌜ r ≡ expression-b-of e ⌝ }
 {
     match e {
@@ -58,7 +57,7 @@ pub fn expression_b_of(e: ExpressionEntry) -> u32
     }
 }
 
-pub fn instruction_kind_of(e: InstructionEntry) -> u32
+fn instruction_kind_of(e: InstructionEntry) -> u32
     ensures { λ r. ⌜ r ≡ instruction-kind-of e ⌝ }
 {
     match e {
@@ -71,7 +70,7 @@ pub fn instruction_kind_of(e: InstructionEntry) -> u32
     }
 }
 
-pub fn instruction_a_of(e: InstructionEntry) -> u32
+fn instruction_a_of(e: InstructionEntry) -> u32
     ensures { λ r. ⌜ r ≡ instruction-a-of e ⌝ }
 {
     match e {
@@ -84,7 +83,7 @@ pub fn instruction_a_of(e: InstructionEntry) -> u32
     }
 }
 
-pub fn instruction_b_of(e: InstructionEntry) -> u32
+fn instruction_b_of(e: InstructionEntry) -> u32
     ensures { λ r. ⌜ r ≡ instruction-b-of e ⌝ }
 {
     match e {
@@ -97,7 +96,7 @@ pub fn instruction_b_of(e: InstructionEntry) -> u32
     }
 }
 
-pub fn instruction_c_of(e: InstructionEntry) -> u32
+fn instruction_c_of(e: InstructionEntry) -> u32
     ensures { λ r. ⌜ r ≡ instruction-c-of e ⌝ }
 {
     match e {
@@ -210,18 +209,6 @@ pub fn set_slot_link(p: &mut [u32], x: u32, v: u32)
     ensures { λ _. ⌜ now (p .exit) ≡ set-slot-link (now (p .entry)) x v ⌝ }
 {
     set_word(p, 7108 + 5 * wide(x), v);
-}
-
-pub fn set_name_byte(p: &mut [u32], k: u32, i: u32, v: u32)
-    ensures { λ _. ⌜ now (p .exit) ≡ set-name-byte (now (p .entry)) k i v ⌝ }
-{
-    set_word(p, 65 + 17 * wide(k) + wide(i), v);
-}
-
-pub fn set_literal_byte(l: &mut [u8], k: u32, i: u32, v: u8)
-    ensures { λ _. ⌜ now (l .exit) ≡ set-literal-byte (now (l .entry)) k i v ⌝ }
-{
-    set_byte(l, 64 * wide(k) + wide(i), v);
 }
 
 // kind, a and b of expression x; its slot name and slot link stay

@@ -256,7 +256,7 @@ pub enum InstructionEntry {
     Bad,
 }
 
-pub fn expression_of(k: u32, a: u32, b: u32) -> ExpressionEntry
+fn expression_of(k: u32, a: u32, b: u32) -> ExpressionEntry
     ensures { λ r. ⌜ r ≡ expression-of k a b ⌝ }
 {
     if k == 0 {
@@ -286,7 +286,7 @@ pub fn expression_of(k: u32, a: u32, b: u32) -> ExpressionEntry
     ExpressionEntry::Bad
 }
 
-pub fn instruction_of(k: u32, a: u32, b: u32, c: u32) -> InstructionEntry
+fn instruction_of(k: u32, a: u32, b: u32, c: u32) -> InstructionEntry
     ensures { λ r. ⌜ r ≡ instruction-of k a b c ⌝ }
 {
     if k == 0 {

@@ -11,7 +11,7 @@ ghost use Rattle.texts.specs.Literals.{literals-held};
 ghost use Rattle.texts.specs.Texts.{part-of, Inside, Readable, LiteralsInside, TextsInside, text-size, same-texts};
 
 // The n bytes of a memory from a place on.
-pub fn part<'a>(m: &'a [u8], from: usize, n: usize) -> &'a [u8]
+fn part<'a>(m: &'a [u8], from: usize, n: usize) -> &'a [u8]
     requires { ⌜ Inside (now m) from n ⌝ }
     ensures { λ r. ⌜ now r ≡ part-of (now (m .entry)) from n ⌝ }
 {
@@ -19,7 +19,7 @@ pub fn part<'a>(m: &'a [u8], from: usize, n: usize) -> &'a [u8]
 }
 
 // The bytes of literal k: none where the program has no such literal.
-pub fn literal_bytes<'a>(p: &[u32], l: &'a [u8], k: u32) -> &'a [u8]
+fn literal_bytes<'a>(p: &[u32], l: &'a [u8], k: u32) -> &'a [u8]
     requires { ⌜ LiteralsInside (now p) (now l) ⌝ }
     ensures { λ r. ⌜ now r ≡ getD (literals-held (now (p .entry)) (now (l .entry))) k [] ⌝ }
 {
@@ -34,7 +34,7 @@ pub fn literal_bytes<'a>(p: &[u32], l: &'a [u8], k: u32) -> &'a [u8]
 }
 
 // The bytes of made text k: none where it is not in use.
-pub fn made_bytes<'a>(h: &[u32], t: &'a [u8], k: u32) -> &'a [u8]
+fn made_bytes<'a>(h: &[u32], t: &'a [u8], k: u32) -> &'a [u8]
     requires { ⌜ TextsInside (now h) (now t) ⌝ }
     ensures { λ r. ⌜ now r ≡ getD (texts-held (now (h .entry)) (now (t .entry))) k [] ⌝ }
 {
@@ -74,7 +74,7 @@ pub fn text_size(p: &[u32], h: &[u32], x: Text) -> u32
     }
 }
 
-pub fn same_bytes(a: &[u8], b: &[u8]) -> bool
+fn same_bytes(a: &[u8], b: &[u8]) -> bool
     ensures { λ r. ⌜ r ≡ same (now (a .entry)) (now (b .entry)) ⌝ }
 {
     if a.len() != b.len() {
@@ -91,7 +91,7 @@ pub fn same_bytes(a: &[u8], b: &[u8]) -> bool
 }
 
 // `==` of two texts: their bytes.
-pub fn same_texts<'a>(p: &[u32], l: &'a [u8], h: &[u32], t: &'a [u8], x: Text, y: Text) -> bool
+fn same_texts<'a>(p: &[u32], l: &'a [u8], h: &[u32], t: &'a [u8], x: Text, y: Text) -> bool
     requires { ⌜ Readable (now p) (now l) (now h) (now t) ⌝ }
     ensures { λ r. ⌜ r ≡ same-texts (literals-held (now (p .entry)) (now (l .entry))) (texts-held (now (h .entry)) (now (t .entry))) x y ⌝ }
 {

@@ -4,7 +4,7 @@ ghost use mathlib.Core.Path.{_≡_};
 ghost use Rattle.wellformed.specs.WellFormed.{limits, well-formed};
 
 // What a state keeps within, from the program words.
-pub fn limits(p: &[u32]) -> Limits
+fn limits(p: &[u32]) -> Limits
     ensures { λ r. ⌜ r ≡ limits (now (p .entry)) ⌝ }
 {
     let frames = tables::frame_limit(p);
