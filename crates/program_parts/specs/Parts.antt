@@ -69,7 +69,7 @@ pub record Parts (p : List ℕ) : Type 0 where
   -- or of at most one instruction, never both
   pub one-instruction : (i j a : ℕ) → PartOfInstruction p i a → PartOfInstruction p j a → i ≡ j
   pub never-both : (x i a : ℕ) → PartOf p x a → PartOfInstruction p i a → ⊥
-  -- an instruction stands in one code. (In one place of it, as lists rise: `one-place` in proofs/Places.antt)
+  -- an instruction stands in one code. (In one place of it, as lists rise: `one-place` in program_form/specs/Sound)
   pub stands : (i : ℕ) → i < instructions p → StandsSomewhere p i
   pub one-code : (k m i : ℕ) → StandsIn p k i → StandsIn p m i → k ≡ m
   -- a code literal stands in one expression,
