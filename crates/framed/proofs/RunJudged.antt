@@ -12,11 +12,11 @@ use Rattle.framed.specs.Tree.{Instruction, Code, _then_}
 use Rattle.framed.specs.Paths.{Path}
 use Rattle.framed.specs.Program.{Program}
 use Rattle.framed.specs.Values.{Heap}
-use Rattle.framed.specs.Machine.{State, Effect, gives, ends, reserve, perform, step, after-step, right-side, frame-literals, join-signs}
+use Rattle.framed.specs.Machine.{State, Effect, gives, ends, reserve, perform, step, after-step, marked, right-side, frame-literals, join-signs}
 use Rattle.framed.specs.Judgments.{C⇒, c-empty, c-not-empty, Rule, RunsTo}
 use Rattle.framed.specs.Answers.{Stopped}
-use Rattle.framed.specs.Calls.{Unbounded, advanced, at-end, position-in, position, Ran, one-more, run, frame-total, text-total}
-use Rattle.framed.specs.Theorems.{Done, Leads, RunJudged}
+use Rattle.framed.specs.Calls.{Unbounded, advanced, ended, at-end, position-in, position, Ran, stopped, one-more, run, frame-total, text-total}
+use Rattle.framed.specs.Theorems.{Done, EndsFull, frames-full, texts-full, Leads, RunJudged}
 use Rattle.framed.proofs.General.{to-true}
 use Rattle.framed.proofs.StepJudged.{ends-inj, ends≢gives, rule-number, step-judged}
 use Rattle.framed.proofs.Runs.{by-reserve, step-is, Room, room, no-frames, no-texts, reserve-room, fuel≢end, output≢end, end-inj, before-is, run-at-end, run-ends, run-steps, run-induction}
@@ -94,9 +94,10 @@ abbrev machine : Code Path → Value → Value → Heap → List ℕ → ℕ →
 machine cs Σ Π h shown made tried =
     record { state = record { remaining = cs; self = Σ; program = Π; heap = h; end-mark = 0 }; shown = shown; made = made; tried = tried }
 
--- what a run does that C leads to these values
-abbrev DoneOrFull : Ran → ℕ → Value → Value → Heap → List ℕ → Type 0
-DoneOrFull r n Σ Π h bs = Done r n Σ Π h bs ⊎ (r .stop ≡ Stopped.end 36) ⊎ (r .stop ≡ Stopped.end 37)
+still-full : {F T : ℕ} {r : Ran} (line : List ℕ) → EndsFull F T r → EndsFull F T (one-more line r)
+unfolding one-more
+still-full line (frames-full i rest e n l) = frames-full i rest e n l
+still-full line (texts-full i rest e n l) = texts-full i rest e n l
 
 -- one step more at the front
 module _ (p : Program) (i : Instruction Path) (cs : Code Path) (Σ Π Σ′ Π′ : Value) (h h′ : Heap) (x : Effect) (bs shown : List ℕ) (made : ℕ) (tried : Bool) where
@@ -122,19 +123,20 @@ module _ (p : Program) (i : Instruction Path) (cs : Code Path) (Σ Π Σ′ Π�
           (to-true (le→leb (length (x .line)) space (omega (arith, length-append (x .line) bs))))
 
       -- without, the run ends
-      full : (fuel e : ℕ) → reserve F T (h .frames) Σ Π i ≡ suc e → run p F T (suc fuel) space u .stop ≡ Stopped.end (suc e)
+      ends-now : (fuel e : ℕ) → reserve F T (h .frames) Σ Π i ≡ suc e → run p F T (suc fuel) space u ≡ stopped (Stopped.end (suc e)) (ended (suc e) u)
       unfolding position position-in by-reserve
-      full fuel e r = ap (λ (q : Ran). q .stop) (run-ends p F T fuel space u i cs (suc e) refl (step-is p F T s i cs ∙ ap (λ (n : ℕ). by-reserve n (perform p Σ Π h cs i)) r))
+      ends-now fuel e r = run-ends p F T fuel space u i cs (suc e) refl (step-is p F T s i cs ∙ ap (λ (n : ℕ). by-reserve n (perform p Σ Π h cs i)) r)
 
-      done-or-full-then : (fuel : ℕ) → suc (next .steps) ≤ fuel → DoneOrFull (run p F T fuel space u) (suc (next .steps)) Σ′ Π′ h′ (x .line ++ bs)
-      unfolding one-more
+      done-or-full-then : (fuel : ℕ) → suc (next .steps) ≤ fuel → Done (run p F T fuel space u) (suc (next .steps)) Σ′ Π′ h′ (x .line ++ bs) ⊎ EndsFull F T (run p F T fuel space u)
+      unfolding ended marked frame-total text-total
       done-or-full-then zero l = absurd (let z : ⊥ = omega arith in z)
-      done-or-full-then (suc fuel) l = go (reserve-room F T s i) refl
+      done-or-full-then (suc fuel) l = go (reserve-room F T s i) refl refl refl
         where
-          go : {n k r : ℕ} → Room F T n k r → reserve F T (h .frames) Σ Π i ≡ r → DoneOrFull (run p F T (suc fuel) space u) (suc (next .steps)) Σ′ Π′ h′ (x .line ++ bs)
-          go (room a b) r = rw (steps-on fuel r) (⊎-map (more (x .line)) (λ e. e) (next .done-or-full F T fuel space-left (omega arith) left-fits))
-          go (no-frames a) r = inr (inl (full fuel 35 r))
-          go (no-texts a b) r = inr (inr (full fuel 36 r))
+          go : {n k r : ℕ} → Room F T n k r → n ≡ frame-total s + frame-literals (right-side i) → k ≡ text-total s + join-signs (right-side i) →
+              reserve F T (h .frames) Σ Π i ≡ r → Done (run p F T (suc fuel) space u) (suc (next .steps)) Σ′ Π′ h′ (x .line ++ bs) ⊎ EndsFull F T (run p F T (suc fuel) space u)
+          go (room a b) e f r = rw (steps-on fuel r) (⊎-map (more (x .line)) (still-full (x .line)) (next .done-or-full F T fuel space-left (omega arith) left-fits))
+          go (no-frames a) e f r = inr (rw (ends-now fuel 35 r) (frames-full i cs refl refl (omega arith)))
+          go (no-texts a b) e f r = inr (rw (ends-now fuel 36 r) (texts-full i cs refl refl (omega arith)))
 
       done-then : (fuel : ℕ) → frame-total s + frame-literals (right-side i) + next .frames ≤ F → text-total s + join-signs (right-side i) + next .texts ≤ T → suc (next .steps) ≤ fuel →
           Done (run p F T fuel space u) (suc (next .steps)) Σ′ Π′ h′ (x .line ++ bs)

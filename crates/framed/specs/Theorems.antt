@@ -4,7 +4,7 @@ use mathlib.Core.Logic.{_↔_, _⊎_}
 use mathlib.Core.Bool.{true, false}
 use mathlib.Core.List.{List, []}
 use mathlib.Core.Option.{none, some}
-use Prim.Native.Nat.{ℕ, suc, _≤_, _<_}
+use Prim.Native.Nat.{ℕ, suc, _+_, _≤_, _<_}
 use lib.ListN.{length}
 use Rattle.framed.specs.declared.Value.{Value}
 use Rattle.framed.specs.declared.Text.{Text}
@@ -12,7 +12,7 @@ use Rattle.framed.specs.Common.{member, has-twice}
 use Rattle.framed.specs.Bytes.{Classes, class}
 use Rattle.framed.specs.Tokens.{Token, tokens, Tokens⊢}
 use Rattle.framed.specs.Symbols.{Symbol}
-use Rattle.framed.specs.Tree.{Written, Slots, Instruction, Code}
+use Rattle.framed.specs.Tree.{Written, Slots, Instruction, Code, _then_}
 use Rattle.framed.specs.Grammar.{Source}
 use Rattle.framed.specs.Parse.{parse}
 use Rattle.framed.specs.Paths.{Path}
@@ -21,7 +21,7 @@ use Rattle.framed.specs.Refusals.{Holds}
 use Rattle.framed.specs.Program.{Program, program}
 use Rattle.framed.specs.Values.{Frame, Heap}
 use Rattle.framed.specs.Fetch.{fetch}
-use Rattle.framed.specs.Machine.{State, Effect, gives, ends, Ready, step, start}
+use Rattle.framed.specs.Machine.{State, Effect, gives, ends, Ready, right-side, frame-literals, join-signs, step, start}
 use Rattle.framed.specs.Judgments.{Fetch⇒, start-path, P⇒, Rule, FirstMet, RunsTo}
 use Rattle.framed.specs.Answers.{Stopped, Look}
 use Rattle.framed.specs.Calls.{Unbounded, at-start, Ran, run, frame-total, text-total, read-path, look, look-text, LooksAs, LooksTextAs}
@@ -77,14 +77,20 @@ pub record Done (r : Ran) (steps : ℕ) (Σ Π : Value) (h : Heap) (bs : List �
   pub shown : r .bytes ≡ bs
   pub state : r .machine .state ≡ record { remaining = Code.finished; self = Σ; program = Π; heap = h; end-mark = 0 }
 
+-- the run ended for lack of room at the instruction i: the reachable frames plus f exceed F, or the reachable made texts plus t exceed T
+pub data EndsFull (F T : ℕ) (r : Ran) : Type 0 where
+  frames-full : (i : Instruction Path) (rest : Code Path) → r .stop ≡ Stopped.end 36 → r .machine .state .remaining ≡ (i then rest) →
+      F < frame-total (r .machine .state) + frame-literals (right-side i) → EndsFull F T r
+  texts-full : (i : Instruction Path) (rest : Code Path) → r .stop ≡ Stopped.end 37 → r .machine .state .remaining ≡ (i then rest) →
+      T < text-total (r .machine .state) + join-signs (right-side i) → EndsFull F T r
+
 -- runs of the machine u lead there
 pub record Leads (p : Program) (u : Unbounded) (Σ Π : Value) (h : Heap) (bs : List ℕ) : Type 0 where
-  -- with fuel for the steps and space for the bytes a run is done, unless it ends with 36 or 37
+  -- with fuel for the steps and space for the bytes a run is done, unless it ends for lack of room
   pub steps : ℕ
   pub done-or-full : (F T fuel space : ℕ) → steps ≤ fuel → length bs ≤ space →
-      let r = run p F T fuel space u in
-      Done r steps Σ Π h bs ⊎ (r .stop ≡ Stopped.end 36) ⊎ (r .stop ≡ Stopped.end 37)
-  -- with room for so many frames and made texts it does not end with these
+      Done (run p F T fuel space u) steps Σ Π h bs ⊎ EndsFull F T (run p F T fuel space u)
+  -- with room for so many frames and made texts it is done
   pub frames : ℕ
   pub texts : ℕ
   pub done : (F T fuel space : ℕ) → frames ≤ F → texts ≤ T → steps ≤ fuel → length bs ≤ space → Done (run p F T fuel space u) steps Σ Π h bs
