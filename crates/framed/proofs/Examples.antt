@@ -4,7 +4,7 @@ use Rattle.framed.specs.Examples.{ProvedExamples, PrintedRun, Examples}
 
 pub proved-examples : ProvedExamples
 unfolding ProvedExamples Examples
-proved-examples = (refl, refl, refl, refl, refl, refl, refl, refl, refl, refl, refl, refl, refl, refl)
+proved-examples = (refl, refl, refl, refl, refl, refl, refl, refl, refl, refl, refl, refl, refl, refl, refl)
 
 pub printed-run : PrintedRun
 unfolding PrintedRun Examples

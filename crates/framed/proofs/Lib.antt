@@ -5,5 +5,10 @@ pub mod ParseFuel
 pub mod Accepted
 pub mod RefusalLowest
 pub mod ReachCounts
+pub mod FetchExact
+pub mod LookJudged
 pub mod StepJudged
+pub mod Runs
+pub mod RunJudged
+pub mod ProgramJudged
 pub mod Examples

@@ -1,8 +1,8 @@
 -- `Machine.perform` agrees with the judgments: it gives what `I⇒` says, ends with 32 to 35 exactly where `Meets` says so, and else with 31;
 -- so does a step with room. Assumes nothing.
 use mathlib.Core.Path.{_≡_, refl, sym, _∙_, ap, subst}
-use mathlib.Core.Logic.{_≢_, _⊎_, inl, inr, ⊎-map, _↔_}
-use mathlib.Core.Bool.{Bool, true, false, _||_, _&&_, not, true≢false, false≢true}
+use mathlib.Core.Logic.{_≢_, _⊎_, inl, inr, ⊎-map}
+use mathlib.Core.Bool.{Bool, true, false, _||_, not, true≢false, false≢true}
 use mathlib.Core.List.{List, [], _∷_, _++_}
 use mathlib.Core.Option.{Option, none, some}
 use Prim.Native.Nat.{ℕ, zero, suc, _≤_, _<_}
@@ -22,37 +22,28 @@ use Rattle.framed.specs.Paths.{Path, from-self, from-program}
 use Rattle.framed.specs.Program.{Program}
 use Rattle.framed.specs.Values.{Slot, Frame, Heap, with-slots, joined, truth, bit}
 use Rattle.framed.specs.Fetch.{in-frame, frame-of, get, fetch}
-use Rattle.framed.specs.Fetch as F
-use Rattle.framed.specs.Machine.{Result, gives, ends, defined, base-value, Evaluated, evaluated, integer-in, integer-result, quotient, new-text, operate, evaluate, fill, Filled, with-frame, with-frames, Effect, becomes, set-slot, holds, frame-number, put-slot, put, assign-to, code-of, jump-to, perform, State, Ready, step}
+use Rattle.framed.specs.Machine.{Result, gives, ends, defined, base-value, Evaluated, evaluated, integer-in, integer-result, quotient, new-text, operate, evaluate, fill, Filled, with-frame, Effect, becomes, set-slot, holds, frame-number, put-slot, put, assign-to, code-of, jump-to, perform, State, Ready, step}
 use Rattle.framed.specs.Machine as M
 use Rattle.framed.specs.Theorems.{StepJudged}
-use Rattle.framed.proofs.General.{none≢some, some-inj, is-true, is-false, to-true, to-false}
-use Rattle.framed.specs.Judgments.{zero-value, OperationMeets, divisor-0, plus-out, minus-out, times-out, over-out, too-long, ExpressionMeets, in-operation, in-a-frame, SlotsMeet, in-first, in-later, Put⇒, put₁-set, put₁-add, put₂, PutMeets, full, further, I⇒, i-show, i-jump, i-ifeq₁, i-ifeq₂, i-assign₁, i-assign₂, i-assign₃, i-assign₄, Meets, in-expression, in-put, root, names, Fetch⇒, fetch₁, fetch₂, B⇒, b-int, b-string, b-code, b-path₁, b-path₂, Operates, o-plus, o-minus, o-times, o-over, o-less, o-join, o-equal, o-and, o-or, E⇒, e-base, e-op, e-not₁, e-not₂, e-frame, Slots⇒, s-none, s-slot}
+use Rattle.framed.proofs.General.{is-true, is-false, to-true, to-false}
+use Rattle.framed.proofs.FetchExact.{bind-some, some-bind, fetch-exact}
+use Rattle.framed.specs.Judgments.{zero-value, OperationMeets, divisor-0, plus-out, minus-out, times-out, over-out, too-long, ExpressionMeets, in-operation, in-a-frame, SlotsMeet, in-first, in-later, Put⇒, put₁-set, put₁-add, put₂, PutMeets, full, further, I⇒, i-show, i-jump, i-ifeq₁, i-ifeq₂, i-assign₁, i-assign₂, i-assign₃, i-assign₄, Meets, in-expression, in-put, root, names, B⇒, b-int, b-string, b-code, b-path₁, b-path₂, Operates, o-plus, o-minus, o-times, o-over, o-less, o-join, o-equal, o-and, o-or, E⇒, e-base, e-op, e-not₁, e-not₂, e-frame, Slots⇒, s-none, s-slot}
 
 -- ---- What a part that gives or ends says of its first part
 
-gives-inj : {A : Type 0} {a b : A} → gives a ≡ gives b → a ≡ b
+pub gives-inj : {A : Type 0} {a b : A} → gives a ≡ gives b → a ≡ b
 gives-inj e = cc
 
-ends-inj : {A : Type 0} {j k : ℕ} → _≡_ {A = Result A} (ends j) (ends k) → j ≡ k
+pub ends-inj : {A : Type 0} {j k : ℕ} → _≡_ {A = Result A} (ends j) (ends k) → j ≡ k
 ends-inj e = cc
 
-ends≢gives : {A : Type 0} {k : ℕ} {a : A} → _≡_ {A = Result A} (ends k) (gives a) → ⊥
+pub ends≢gives : {A : Type 0} {k : ℕ} {a : A} → _≡_ {A = Result A} (ends k) (gives a) → ⊥
 ends≢gives e = let z : _≡_ {A = ℕ} 0 1 = cc in omega arith
 
 gives≢ends : {A : Type 0} {k : ℕ} {a : A} → _≡_ {A = Result A} (gives a) (ends k) → ⊥
 gives≢ends e = let z : _≡_ {A = ℕ} 0 1 = cc in omega arith
 
 -- the parts are handed on as variables, so that nothing is seen through them
-bind-some : {A B C : Type 0} (m : Option A) (f : A → Option B) {b : B} → F._>>=_ m f ≡ some b → ((a : A) → m ≡ some a → f a ≡ some b → C) → C
-unfolding F._>>=_
-bind-some none f e k = absurd (none≢some e)
-bind-some (some a) f e k = k a refl e
-
-some-bind : {A B : Type 0} {m : Option A} (f : A → Option B) {a : A} {b : B} → m ≡ some a → f a ≡ some b → F._>>=_ m f ≡ some b
-unfolding F._>>=_
-some-bind f p q = rw p q
-
 bind-gives : {A B C : Type 0} (m : Result A) (f : A → Result B) {b : B} → M._>>=_ m f ≡ gives b → ((a : A) → m ≡ gives a → f a ≡ gives b → C) → C
 unfolding M._>>=_
 bind-gives (gives a) f e k = k a refl e
@@ -85,36 +76,23 @@ unfolding defined
 defined-ends none e = sym (ends-inj e)
 defined-ends (some b) e = absurd (gives≢ends e)
 
--- ---- Fetch and B
-
-fetch-sound : (frames : List Frame) (v : Value) (ns : List ℕ) {u : Value} → fetch frames v ns ≡ some u → Fetch⇒ frames v ns u
-unfolding fetch get
-fetch-sound frames v [] e = subst (λ (w : Value). Fetch⇒ frames v [] w) (some-inj e) fetch₁
-fetch-sound frames v (n ∷ ns) e =
-    bind-some (get frames v n) _ e λ w g r.
-    bind-some (frame-of frames v) _ g λ f p q.
-    fetch₂ p q (fetch-sound frames w ns r)
-
-fetch-complete : (frames : List Frame) {v : Value} {ns : List ℕ} {u : Value} → Fetch⇒ frames v ns u → fetch frames v ns ≡ some u
-unfolding fetch get
-fetch-complete frames fetch₁ = refl
-fetch-complete frames (fetch₂ p q r) = some-bind _ (some-bind _ p q) (fetch-complete frames r)
+-- ---- B
 
 base-sound : (Σ Π : Value) (frames : List Frame) (b : Base Path) {v : Value} → base-value Σ Π frames b ≡ gives v → B⇒ Σ Π frames b v
 unfolding base-value
 base-sound Σ Π frames (Base.integer z) e = rw (← gives-inj e) b-int
 base-sound Σ Π frames (Base.string k) e = rw (← gives-inj e) b-string
 base-sound Σ Π frames (Base.code k is) e = rw (← gives-inj e) b-code
-base-sound Σ Π frames (Base.path (from-self ns)) e = b-path₁ (fetch-sound frames Σ ns (defined-gives (fetch frames Σ ns) e))
-base-sound Σ Π frames (Base.path (from-program ns)) e = b-path₂ (fetch-sound frames Π ns (defined-gives (fetch frames Π ns) e))
+base-sound Σ Π frames (Base.path (from-self ns)) e = b-path₁ (fetch-exact frames Σ ns _ .0 (defined-gives (fetch frames Σ ns) e))
+base-sound Σ Π frames (Base.path (from-program ns)) e = b-path₂ (fetch-exact frames Π ns _ .0 (defined-gives (fetch frames Π ns) e))
 
 base-complete : {Σ Π : Value} {frames : List Frame} {b : Base Path} {v : Value} → B⇒ Σ Π frames b v → base-value Σ Π frames b ≡ gives v
 unfolding base-value
 base-complete b-int = refl
 base-complete b-string = refl
 base-complete b-code = refl
-base-complete {frames} (b-path₁ d) = gives-defined (fetch-complete frames d)
-base-complete {frames} (b-path₂ d) = gives-defined (fetch-complete frames d)
+base-complete {frames} (b-path₁ d) = gives-defined (fetch-exact frames _ _ _ .1 d)
+base-complete {frames} (b-path₂ d) = gives-defined (fetch-exact frames _ _ _ .1 d)
 
 base-ends : (Σ Π : Value) (frames : List Frame) (b : Base Path) {k : ℕ} → base-value Σ Π frames b ≡ ends k → k ≡ 31
 unfolding base-value
@@ -322,7 +300,7 @@ module _ (literals : List (List ℕ)) (Σ Π : Value) where
   mutual
     unfolding evaluate
 
-    evaluate-sound : (x : Expression Path) (h : Heap) (r : Evaluated) → evaluate literals Σ Π x h ≡ gives r → E⇒ literals Σ Π x h (r .value) (r .heap)
+    pub evaluate-sound : (x : Expression Path) (h : Heap) (r : Evaluated) → evaluate literals Σ Π x h ≡ gives r → E⇒ literals Σ Π x h (r .value) (r .heap)
     evaluate-sound (Expression.base b) h r e =
         bind-gives (base-value Σ Π (h .frames) b) _ e λ v p q.
         rw (← gives-inj q) (e-base (base-sound Σ Π (h .frames) b p))
@@ -347,7 +325,7 @@ module _ (literals : List (List ℕ)) (Σ Π : Value) where
   mutual
     unfolding evaluate
 
-    evaluate-complete : {x : Expression Path} {h : Heap} {v : Value} {h′ : Heap} →
+    pub evaluate-complete : {x : Expression Path} {h : Heap} {v : Value} {h′ : Heap} →
         E⇒ literals Σ Π x h v h′ → evaluate literals Σ Π x h ≡ gives (record { value = v; heap = h′ })
     evaluate-complete (e-base d) = gives-bind _ (base-complete d) refl
     evaluate-complete {h = h} (e-op c d o) = gives-bind _ (base-complete c) (gives-bind _ (base-complete d) (operate-complete literals h o))
@@ -713,6 +691,14 @@ module _ (p : Program) (rest : Code Path) (Σ Π : Value) (h : Heap) (i : Instru
     λ x d. ends≢gives (sym e ∙ perform-complete p rest Σ Π h d),
     λ j m. let l : 31 < j = meets-number m in let q : 31 ≡ j = ends-inj (sym e ∙ perform-meets p rest Σ Π h m) in omega arith,
   )
+
+-- no rule ends with 0
+pub rule-number : (p : Program) (rest : Code Path) (Σ Π : Value) (h : Heap) (i : Instruction Path) {e : ℕ} → perform p Σ Π h rest i ≡ ends e → 31 ≤ e
+rule-number p rest Σ Π h i {e} q = go (perform-ends p rest Σ Π h i q)
+  where
+    go : (e ≡ 31) ⊎ Meets p Σ Π h i e → 31 ≤ e
+    go (inl z) = omega arith
+    go (inr m) = let l : 31 < e = meets-number m in omega arith
 
 -- with room the step is the rule
 step-performs : (p : Program) (F T : ℕ) (s : State) (i : Instruction Path) (rest : Code Path) → Ready F T s i rest →

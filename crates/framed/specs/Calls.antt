@@ -18,6 +18,7 @@ use Rattle.framed.specs.Values.{text-bytes}
 use Rattle.framed.specs.Fetch.{fetch}
 use Rattle.framed.specs.Reach.{roots, reached-frames, reached-texts}
 use Rattle.framed.specs.Machine.{State, Effect, Result, gives, ends, step, after-step, marked, start}
+use Rattle.framed.specs.Judgments.{Fetch⇒}
 use Rattle.framed.specs.Answers.{Stopped, Report, Look}
 
 -- ---- The unbounded machine between two calls (document 01: the endless machine)
@@ -149,6 +150,27 @@ look-text p s text =
       | some w ↦ elim (look-from s w) [ none ↦ [] | some v ↦ text-in p s v ]
     ]
 
+-- By the judgment Fetch: from this value, along these names
+unfoldable pub look-root : State → Written → Value
+look-root s (Written.self ns) = s .self
+look-root s (Written.up k ns) = s .program
+
+unfoldable pub look-names : Written → List ℕ
+look-names (Written.self ns) = ns
+look-names (Written.up k ns) = ns
+
+abbrev pub LookFinds : State → Written → Value → Type 0
+LookFinds s w v = Fetch⇒ (s .heap .frames) (look-root s w) (look-names w) v
+
+-- what look answers for the path w, and its companion
+pub data LooksAs (s : State) (w : Written) : Look → Type 0 where
+  found : {v : Value} → LookFinds s w v → LooksAs s w (kind v)
+  undefined : ((v : Value) → ¬ LookFinds s w v) → LooksAs s w (Look.refused 22)
+
+pub data LooksTextAs (p : Program) (s : State) (w : Written) : List ℕ → Type 0 where
+  text-found : {v : Value} → LookFinds s w v → LooksTextAs p s w (text-in p s v)
+  text-undefined : ((v : Value) → ¬ LookFinds s w v) → LooksTextAs p s w []
+
 -- ---- The list of calls after an accepted load
 
 pub data Call : Type 0 where
@@ -171,5 +193,5 @@ calls p F T (collect-call ∷ cs) u =
     first-report (Report.collected (frame-total (u .state)) (text-total (u .state))) (calls p F T cs u)
 
 unfoldable pub Calls : Type 0
-unfolding at-start advanced ended attempted position-in position one-more run frame-total text-total look-path read-path look-from kind look text-in look-text first-report calls
+unfolding at-start advanced ended attempted position-in position one-more run frame-total text-total look-path read-path look-from kind look text-in look-text look-root look-names first-report calls
 Calls = ℕ

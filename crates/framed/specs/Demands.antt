@@ -3,11 +3,11 @@
 -- The statements are proved where the layout is defined; here they are only stated. Assumes nothing.
 use mathlib.Core.Path.{_≡_}
 use mathlib.Core.Logic.{_↔_, _≢_}
-use mathlib.Core.Bool.{Bool, true}
+use mathlib.Core.Bool.{true}
 use mathlib.Core.List.{List, [], _∷_, _++_, List·Memᴰ}
-use mathlib.Core.Option.{Option, none, some}
+use mathlib.Core.Option.{some}
 use Prim.Native.Nat.{ℕ, suc, _+_, _≤_, _<_}
-use lib.ListN.{length, take, drop}
+use lib.ListN.{length, drop}
 use Rattle.framed.specs.declared.Value.{Value}
 use Rattle.framed.specs.declared.Text.{Text}
 use Rattle.framed.specs.declared.LoadAnswer.{LoadAnswer}
@@ -15,15 +15,17 @@ use Rattle.framed.specs.declared.RunReport.{RunReport}
 use Rattle.framed.specs.declared.RunAnswer.{RunAnswer}
 use Rattle.framed.specs.declared.CollectAnswer.{CollectAnswer}
 use Rattle.framed.specs.declared.LookAnswer.{LookAnswer}
-use Rattle.framed.specs.Tree.{Instruction, Code, _then_}
+use Rattle.framed.specs.Bytes.{class}
+use Rattle.framed.specs.Tokens.{tokens}
+use Rattle.framed.specs.Tree.{Written, Instruction, Code, _then_}
 use Rattle.framed.specs.Paths.{Path}
 use Rattle.framed.specs.Meaning.{Lengths, refusal}
 use Rattle.framed.specs.Refusals.{Holds}
 use Rattle.framed.specs.Program.{Program, program}
 use Rattle.framed.specs.Machine.{State, Effect, ends, Ready, step, after-step, start, right-side, frame-literals}
-use Rattle.framed.specs.Judgments.{I⇒, Meets}
-use Rattle.framed.specs.Answers.{load-number, Stopped, stop-word, Report, run-report, collect-report, look-word, Look}
-use Rattle.framed.specs.Calls.{Unbounded, at-start, Call, run-call, collect-call, Session, calls, run, frame-total, text-total, look, look-text}
+use Rattle.framed.specs.Judgments.{Rule, FirstMet}
+use Rattle.framed.specs.Answers.{load-number, Stopped, Report, run-report, collect-report, look-word, Look}
+use Rattle.framed.specs.Calls.{Unbounded, at-start, Call, run-call, collect-call, Session, calls, run, frame-total, text-total, read-path, look, look-text, LooksAs, LooksTextAs}
 use Rattle.framed.specs.Alike.{Alike, InReach}
 
 -- the four memories
@@ -87,6 +89,17 @@ bytes-in (Report.ran why steps count bytes ∷ rs) = bytes ++ bytes-in rs
 bytes-in (Report.collected f t ∷ rs) = bytes-in rs
 bytes-in (Report.refused n ∷ rs) = bytes-in rs
 
+-- a run with the buffer that is lent to it, or a collect
+pub data LentCall : Type 0 where
+  lent-run : (fuel : ℕ) → (buffer : List ℕ) → LentCall
+  lent-collect : LentCall
+
+-- what the unbounded machine is fed: the call's kind, and a run's fuel and buffer length
+unfoldable pub fed : List LentCall → List Call
+fed [] = []
+fed (lent-run fuel buffer ∷ cs) = run-call fuel (length buffer) ∷ fed cs
+fed (lent-collect ∷ cs) = collect-call ∷ fed cs
+
 module _ (M : LentMachine) where
   -- a run's report with the bytes that it left in the buffer
   abbrev pub reported : Memories → ℕ → List ℕ → Report
@@ -143,7 +156,7 @@ module _ (M : LentMachine) where
         let p = M .program-in m in
         let s = M .state-in m in
         Ready (M .F-in m) (M .T-in m) s i rest →
-        I⇒ p rest (s .self) (s .program) (s .heap) i (x .remaining) (x .self) (x .program) (x .heap) (x .line) →
+        Rule p s rest i x →
         length (x .line) ≤ length buffer →
         ((why : Stopped) × (reported m 1 buffer ≡ Report.ran why 1 (length (x .line)) (x .line))) × Alike (after-step s x) (left m 1 buffer)
     pub no-rule : (m : Memories) (fuel : ℕ) (buffer : List ℕ) (i : Instruction Path) (rest : Code Path) → M .WellFormed m →
@@ -151,13 +164,13 @@ module _ (M : LentMachine) where
         let s = M .state-in m in
         Ready (M .F-in m) (M .T-in m) s i rest →
         StopsAfter (Stopped.end 31) 0 (reported m (suc fuel) buffer) ↔
-        (((x : Effect) → ¬ I⇒ p rest (s .self) (s .program) (s .heap) i (x .remaining) (x .self) (x .program) (x .heap) (x .line))
-        × ((e : ℕ) → ¬ Meets p (s .self) (s .program) (s .heap) i e))
+        (((x : Effect) → ¬ Rule p s rest i x)
+        × ((e : ℕ) → ¬ FirstMet p s i e))
     pub first-met : (m : Memories) (fuel : ℕ) (buffer : List ℕ) (i : Instruction Path) (rest : Code Path) (e : ℕ) → M .WellFormed m →
         let p = M .program-in m in
         let s = M .state-in m in
         Ready (M .F-in m) (M .T-in m) s i rest → 31 < e →
-        StopsAfter (Stopped.end e) 0 (reported m (suc fuel) buffer) ↔ Meets p (s .self) (s .program) (s .heap) i e
+        StopsAfter (Stopped.end e) 0 (reported m (suc fuel) buffer) ↔ FirstMet p s i e
     -- the stop order: from every unbounded machine that is alike to what the memories hold, the same report and alike states
     pub runs : (m : Memories) (fuel : ℕ) (buffer : List ℕ) (u : Unbounded) → M .WellFormed m → Alike (u .state) (M .state-in m) →
         let r = run (M .program-in m) (M .F-in m) (M .T-in m) fuel (length buffer) u in
@@ -169,22 +182,17 @@ module _ (M : LentMachine) where
         List·Memᴰ n (M .frames-in-use (M .collect m .memories)) ↔ InReach (M .state-in m) (Value.Frame n)
     pub collects-texts : (m : Memories) (k : ℕ) → M .WellFormed m →
         List·Memᴰ k (M .texts-in-use (M .collect m .memories)) ↔ InReach (M .state-in m) (Value.Text (Text.Made k))
+    pub collects-alike : (m : Memories) → M .WellFormed m → Alike (M .state-in m) (M .state-in (M .collect m .memories))
     -- look is Fetch over what the memories hold
     pub looks : (m : Memories) (path : List ℕ) → M .WellFormed m → look-word (M .look m path) ≡ look (M .program-in m) (M .state-in m) path
     pub looks-text : (m : Memories) (path : List ℕ) → M .WellFormed m → M .look-text m path ≡ look-text (M .program-in m) (M .state-in m) path
+    -- which for a path text is the judgment Fetch: the kind of the value that it gives, or 22 where it gives none
+    pub looks-fetch : (m : Memories) (path : List ℕ) (w : Written) (l : Look) → M .WellFormed m → read-path (M .program-in m) (tokens class path) ≡ some w →
+        (look-word (M .look m path) ≡ l) ↔ LooksAs (M .state-in m) w l
+    pub looks-text-fetch : (m : Memories) (path : List ℕ) (w : Written) (bs : List ℕ) → M .WellFormed m → read-path (M .program-in m) (tokens class path) ≡ some w →
+        (M .look-text m path ≡ bs) ↔ LooksTextAs (M .program-in m) (M .state-in m) w bs
 
   -- ---- Demand 3: one claim about the whole list of calls
-
-  -- a run with the buffer that is lent to it, or a collect
-  pub data LentCall : Type 0 where
-    lent-run : (fuel : ℕ) → (buffer : List ℕ) → LentCall
-    lent-collect : LentCall
-
-  -- what the unbounded machine is fed: the call's kind, and a run's fuel and buffer length
-  unfoldable pub fed : List LentCall → List Call
-  fed [] = []
-  fed (lent-run fuel buffer ∷ cs) = run-call fuel (length buffer) ∷ fed cs
-  fed (lent-collect ∷ cs) = collect-call ∷ fed cs
 
   -- the reports of our calls, each call over the memories that the one before left
   unfoldable pub lent-reports : Memories → List LentCall → List Report
@@ -196,6 +204,13 @@ module _ (M : LentMachine) where
   memories-after m [] = m
   memories-after m (lent-run fuel buffer ∷ cs) = memories-after (M .run m fuel buffer .memories) cs
   memories-after m (lent-collect ∷ cs) = memories-after (M .collect m .memories) cs
+
+  -- a run comes to the instruction i, with `rest` behind it, after k steps with fuel left
+  pub record ComesTo (m : Memories) (fuel k : ℕ) (buffer : List ℕ) (i : Instruction Path) (rest : Code Path) : Type 0 where
+    pub fuel-left : k < fuel
+    -- the run with just k units of fuel makes k steps, and leaves the state at that instruction
+    pub steps : StopsAfter Stopped.fuel k (reported m k buffer)
+    pub next : left m k buffer .remaining ≡ (i then rest)
 
   -- the memories after the list of calls, against the unbounded machine that was fed the same list
   pub record AlikeAfter (p : Program) (F T : ℕ) (rs : List Report) (m : Memories) (s : Session) : Type 0 where
@@ -209,10 +224,8 @@ module _ (M : LentMachine) where
     -- an end stands exactly when a run tried the next instruction and it gives that end
     pub ends-stand : (e : ℕ) → 31 ≤ e → e ≤ 37 →
         (M .state-in m .end-mark ≡ e) ↔ ((s .machine .tried ≡ true) × NextEnds p F T (s .machine .state) e)
-    -- A run that comes to an instruction after k steps with fuel left ends there with 36 exactly when the frames reached plus f exceed F.
-    -- The state at that instruction is what the run with just k units of fuel leaves
-    pub frames-full : (fuel k : ℕ) (buffer : List ℕ) (i : Instruction Path) (rest : Code Path) → k < fuel →
-        StopsAfter Stopped.fuel k (reported m k buffer) → left m k buffer .remaining ≡ (i then rest) →
+    -- a run ends with 36 at an instruction that it comes to exactly when the frames reached plus f exceed F
+    pub frames-full : (fuel k : ℕ) (buffer : List ℕ) (i : Instruction Path) (rest : Code Path) → ComesTo m fuel k buffer i rest →
         StopsAfter (Stopped.end 36) k (reported m fuel buffer) ↔ (F < frame-total (left m k buffer) + frame-literals (right-side i))
 
   pub record Demand3 : Type 0 where

@@ -5,7 +5,7 @@ use mathlib.Core.List.{List, [], _∷_, _++_}
 use mathlib.Core.Option.{Option, none, some}
 use Prim.Native.Nat.{ℕ, zero, suc}
 use Prim.Native.String.{String}
-use lib.ListN.{length}
+use lib.ListN.{length, getElem?}
 use Rattle.framed.specs.Common.{bytes}
 use Rattle.framed.specs.Tree.{Base, Instruction, Code, _then_}
 use Rattle.framed.specs.Paths.{Path, from-program}
@@ -46,10 +46,14 @@ shows line = Report.ran (Stopped.end 0) 2 (length (bytes line)) (bytes line) ∷
 abbrev pub ended : ℕ → List Report
 ended e = Report.ran (Stopped.end e) 0 0 [] ∷ []
 
--- the instructions of the first code of a source
-unfoldable pub first-code : Option Program → List (Code Path)
-first-code none = []
-first-code (some p) = p .codes
+-- the codes of a source's program, and the bytes of a name in it
+unfoldable pub codes-of : Option Program → List (Code Path)
+codes-of none = []
+codes-of (some p) = p .codes
+
+unfoldable pub name-of : Option Program → ℕ → Option (List ℕ)
+name-of none n = none
+name-of (some p) n = getElem? (p .names) n
 
 abbrev pub a-source-with-b : List ℕ
 a-source-with-b = bytes "frame: [ b := 5, Main := frame: [ start := code { show ^.^.b; } ] ]"
@@ -71,7 +75,8 @@ ProvedExamples =
     × (runs "self.x := 0 == \"0\"; show self.x;" ≡ shows "0\n")
     × (runs "self.x := \"n=\" # -5; show self.x;" ≡ shows "n=-5\n")
     -- in Main.start `^.^.b` is the list b, and there `^.^.^` is 10
-    × (first-code (program a-source-with-b) ≡ (Instruction.show (Base.path (from-program (b ∷ []))) then Code.finished) ∷ [])
+    × (name-of (program a-source-with-b) b ≡ some (bytes "b"))
+    × (codes-of (program a-source-with-b) ≡ (Instruction.show (Base.path (from-program (b ∷ []))) then Code.finished) ∷ [])
     × (load-gives (main "show ^.^.^;") ≡ 10)
     × (load-gives (main "show self.a -1;") ≡ 6)
     -- joining to 64 bytes works, to 65 ends 34
@@ -93,5 +98,5 @@ PrintedRun = framerun printed-source ≡ bytes "n=7\nend 0 steps 4 frames 3 text
 
 -- to compute with these, a proof unfolds `Examples`
 unfoldable pub Examples : Type 0
-unfolding load-gives reports-of reports main runs first-code Framerun
+unfolding load-gives reports-of reports main runs codes-of name-of Framerun
 Examples = ℕ

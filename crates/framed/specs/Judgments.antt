@@ -1,26 +1,28 @@
--- Document 001 (the Framed thesis), section 4: its judgments B, Fetch, E, Put and I as relations, one constructor for each rule,
+-- Document 001 (the Framed thesis), section 4: its judgments B, Fetch, E, Put, I, C and that of a program as relations, one constructor for each rule,
 -- with document 01's corrections and limits: Put₂ reads getF, I-Assign₃ hands Put the newer heap, integers are in range, a made text has at most
--- 64 bytes and a frame at most 16 slots.
+-- 64 bytes and a frame at most 16 slots. I, C and that of a program also say what is shown.
 -- `Meets` says which of 32 to 35 is met first in the rule's order. Demand 2: `Machine.perform` gives what `I⇒` says, ends with 32 to 35 where
 -- `Meets` says so, and else with 31. Assumes nothing.
 use mathlib.Core.Path.{_≡_}
 use mathlib.Core.Logic.{_≢_}
-use mathlib.Core.Bool.{Bool, true, false, _||_, _&&_}
+use mathlib.Core.Bool.{true, false, _||_, _&&_}
 use mathlib.Core.List.{List, [], _∷_, _++_}
-use mathlib.Core.Option.{Option, none, some}
-use Prim.Native.Nat.{ℕ, zero, suc, _≤_, _<_}
+use mathlib.Core.Option.{none, some}
+use Prim.Native.Nat.{ℕ, _≤_, _<_}
 use lib.IntN.{ℤ, pos, _+ℤ_, _-ℤ_, _*ℤ_}
 use lib.Signed.{ltZ, quotZ}
 use lib.ListN.{length, getD, getElem?, set}
 use Rattle.framed.specs.declared.Value.{Value}
 use Rattle.framed.specs.declared.Text.{Text}
+use Rattle.framed.specs.Common.{bytes}
 use Rattle.framed.specs.Tokens.{Operator, in-range}
-use Rattle.framed.specs.Tree.{Base, Expression, Slots, Instruction, Code}
+use Rattle.framed.specs.Symbols.{number-in}
+use Rattle.framed.specs.Tree.{Base, Expression, Slots, Instruction, Code, _then_}
 use Rattle.framed.specs.Paths.{Path, from-self, from-program}
 use Rattle.framed.specs.Program.{Program}
-use Rattle.framed.specs.Values.{Slot, Frame, Heap, new-frame, with-slots, shown, joined, truth, bit, equal-values}
+use Rattle.framed.specs.Values.{Slot, Frame, Heap, new-frame, with-slots, empty-heap, shown, joined, truth, bit, equal-values}
 use Rattle.framed.specs.Fetch.{in-frame, frame-of}
-use Rattle.framed.specs.Machine.{set-slot, with-frame, with-frames}
+use Rattle.framed.specs.Machine.{set-slot, with-frame, with-frames, State, Effect}
 
 abbrev pub zero-value : Value
 zero-value = Value.Int (pos 0)
@@ -116,6 +118,25 @@ pub data I⇒ (p : Program) (cs : Code Path) (Σ Π : Value) (h : Heap) : Instru
   i-assign₄ : {e : Expression Path} {v : Value} {h′ : Heap} →
       E⇒ (p .literals) Σ Π e h v h′ → I⇒ p cs Σ Π h (Instruction.assign (from-program []) e) cs Σ v h′ []
 
+-- ---- C: the list cs gives Σ′, Π′, the heap after it and the bytes that are shown
+
+pub data C⇒ (p : Program) : Code Path → Value → Value → Heap → Value → Value → Heap → List ℕ → Type 0 where
+  c-empty : {Σ Π : Value} {h : Heap} → C⇒ p Code.finished Σ Π h Σ Π h []
+  c-not-empty : {c : Instruction Path} {cs cs′ : Code Path} {Σ Π Σ′ Π′ Σ″ Π″ : Value} {h h′ h″ : Heap} {line bs : List ℕ} →
+      I⇒ p cs Σ Π h c cs′ Σ′ Π′ h′ line → C⇒ p cs′ Σ′ Π′ h′ Σ″ Π″ h″ bs → C⇒ p (c then cs) Σ Π h Σ″ Π″ h″ (line ++ bs)
+
+-- ---- The program: its frame is evaluated from the empty heap, with any values for Σ and Π; Σ is a further empty frame, and the list is that of Main.start
+
+-- the numbers of the names Main and start
+unfoldable pub start-path : Program → List ℕ
+start-path p = number-in (p .names) (bytes "Main") ∷ number-in (p .names) (bytes "start") ∷ []
+
+pub data P⇒ (p : Program) : Value → Value → Heap → List ℕ → Type 0 where
+  p-run : {Σ₀ Π₀ Σ Π Σ′ Π′ : Value} {h h′ : Heap} {k : ℕ} {bs : List ℕ} →
+      E⇒ (p .literals) Σ₀ Π₀ (Expression.frame (p .slots)) empty-heap Π h → Σ ≡ Value.Frame (length (h .frames)) →
+      Fetch⇒ (with-frame h .frames) Π (start-path p) (Value.Code k) →
+      C⇒ p (getD (p .codes) k Code.finished) Σ Π (with-frame h) Σ′ Π′ h′ bs → P⇒ p Σ′ Π′ h′ bs
+
 -- ---- 32 to 35, where each is the first that is met
 
 pub data OperationMeets (literals : List (List ℕ)) (h : Heap) : Operator → Value → Value → ℕ → Type 0 where
@@ -164,3 +185,17 @@ pub data Meets (p : Program) (Σ Π : Value) (h : Heap) : Instruction Path → �
   in-put : {path : Path} {e : Expression Path} {v : Value} {h′ : Heap} {k : ℕ} →
       E⇒ (p .literals) Σ Π e h v h′ → PutMeets (h′ .frames) v (root Σ Π path) (names path) k →
       Meets p Σ Π h (Instruction.assign path e) k
+
+-- ---- In a state
+
+-- the rule of the instruction i, with `rest` behind it, has the effect x in the state s
+abbrev pub Rule : Program → State → Code Path → Instruction Path → Effect → Type 0
+Rule p s rest i x = I⇒ p rest (s .self) (s .program) (s .heap) i (x .remaining) (x .self) (x .program) (x .heap) (x .line)
+
+-- the number e of 32 to 35 is the first met in it
+abbrev pub FirstMet : Program → State → Instruction Path → ℕ → Type 0
+FirstMet p s i e = Meets p (s .self) (s .program) (s .heap) i e
+
+-- the remaining instructions of the state s give these values, this heap and these bytes
+abbrev pub RunsTo : Program → State → Value → Value → Heap → List ℕ → Type 0
+RunsTo p s Σ Π h bs = C⇒ p (s .remaining) (s .self) (s .program) (s .heap) Σ Π h bs

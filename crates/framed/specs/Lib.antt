@@ -10,6 +10,7 @@ pub mod Paths
 pub mod Meaning
 pub mod Refusals
 pub mod Program
+pub mod Accepted
 pub mod Values
 pub mod Fetch
 pub mod Reach

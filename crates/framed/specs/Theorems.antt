@@ -1,27 +1,30 @@
 -- What is proved about these definitions. Each type is a theorem's statement; its proof has the same name in proofs/. Assumes nothing.
 use mathlib.Core.Path.{_≡_}
-use mathlib.Core.Logic.{_↔_}
+use mathlib.Core.Logic.{_↔_, _⊎_}
 use mathlib.Core.Bool.{true, false}
-use mathlib.Core.List.{List}
-use mathlib.Core.Option.{some}
-use Prim.Native.Nat.{ℕ, suc, _≤_, _<_}
+use mathlib.Core.List.{List, []}
+use mathlib.Core.Option.{none, some}
+use Prim.Native.Nat.{ℕ, suc, _+_, _≤_, _<_}
 use lib.ListN.{length}
 use Rattle.framed.specs.declared.Value.{Value}
 use Rattle.framed.specs.declared.Text.{Text}
 use Rattle.framed.specs.Common.{member, has-twice}
-use Rattle.framed.specs.Bytes.{Classes}
+use Rattle.framed.specs.Bytes.{Classes, class}
 use Rattle.framed.specs.Tokens.{Token, tokens, Tokens⊢}
 use Rattle.framed.specs.Symbols.{Symbol}
-use Rattle.framed.specs.Tree.{Written, Slots, Instruction, Code}
+use Rattle.framed.specs.Tree.{Written, Slots, Instruction, Code, _then_}
 use Rattle.framed.specs.Grammar.{Source}
 use Rattle.framed.specs.Parse.{parse}
 use Rattle.framed.specs.Paths.{Path}
 use Rattle.framed.specs.Meaning.{Lengths, refusal}
 use Rattle.framed.specs.Refusals.{Holds}
-use Rattle.framed.specs.Program.{Program}
-use Rattle.framed.specs.Machine.{State, Effect, gives, ends, Ready, step}
-use Rattle.framed.specs.Judgments.{I⇒, Meets}
-use Rattle.framed.specs.Calls.{frame-total, text-total}
+use Rattle.framed.specs.Program.{Program, program}
+use Rattle.framed.specs.Values.{Frame, Heap}
+use Rattle.framed.specs.Fetch.{fetch}
+use Rattle.framed.specs.Machine.{State, Effect, gives, ends, Ready, right-side, frame-literals, join-signs, step, start}
+use Rattle.framed.specs.Judgments.{Fetch⇒, start-path, P⇒, Rule, FirstMet, RunsTo}
+use Rattle.framed.specs.Answers.{Stopped, Look}
+use Rattle.framed.specs.Calls.{Unbounded, at-start, Ran, run, frame-total, text-total, read-path, look, look-text, LooksAs, LooksTextAs}
 use Rattle.framed.specs.Alike.{InReach}
 
 -- `tokens` gives the tokens that stand in the bytes one after the other, and nothing exactly when some bytes form none
@@ -39,13 +42,17 @@ pub record RefusalLowest : Type 0 where
   pub holds : (m : Lengths) (source : List ℕ) (F T n : ℕ) → refusal m source F T ≡ suc n → Holds m source F T (suc n)
   pub lowest : (m : Lengths) (source : List ℕ) (F T n k : ℕ) → refusal m source F T ≡ suc n → Holds m source F T k → suc n ≤ k
 
--- the rule of the instruction i, with `rest` behind it, has the effect x in the state s
-abbrev pub Rule : Program → State → Code Path → Instruction Path → Effect → Type 0
-Rule p s rest i x = I⇒ p rest (s .self) (s .program) (s .heap) i (x .remaining) (x .self) (x .program) (x .heap) (x .line)
+-- `fetch` gives a value exactly when Fetch does
+abbrev pub FetchExact : Type 0
+FetchExact = (frames : List Frame) (v : Value) (ns : List ℕ) (w : Value) → (fetch frames v ns ≡ some w) ↔ Fetch⇒ frames v ns w
 
--- the number e of 32 to 35 is the first met in it
-abbrev pub FirstMet : Program → State → Instruction Path → ℕ → Type 0
-FirstMet p s i e = Meets p (s .self) (s .program) (s .heap) i e
+-- look at a path text is Fetch from self or from the program frame; at any other text it is 21
+pub record LookJudged : Type 0 where
+  pub kinds : (p : Program) (s : State) (text : List ℕ) (w : Written) (l : Look) → read-path p (tokens class text) ≡ some w → (look p s text ≡ l) ↔ LooksAs s w l
+  pub texts : (p : Program) (s : State) (text : List ℕ) (w : Written) (bs : List ℕ) → read-path p (tokens class text) ≡ some w →
+      (look-text p s text ≡ bs) ↔ LooksTextAs p s w bs
+  pub not-path : (p : Program) (s : State) (text : List ℕ) → read-path p (tokens class text) ≡ none →
+      (look p s text ≡ Look.refused 21) × (look-text p s text ≡ [])
 
 -- with room and no end mark
 pub record StepJudged : Type 0 where
@@ -62,6 +69,62 @@ pub record StepJudged : Type 0 where
   pub one-effect : (p : Program) (s : State) (i : Instruction Path) (rest : Code Path) (x y : Effect) → Rule p s rest i x → Rule p s rest i y → x ≡ y
   pub one-number : (p : Program) (s : State) (i : Instruction Path) (e f : ℕ) → FirstMet p s i e → FirstMet p s i f → e ≡ f
   pub not-both : (p : Program) (s : State) (i : Instruction Path) (rest : Code Path) (x : Effect) (e : ℕ) → Rule p s rest i x → ¬ FirstMet p s i e
+
+-- the run is done, after so many steps, with these values, this heap and these bytes
+pub record Done (r : Ran) (steps : ℕ) (Σ Π : Value) (h : Heap) (bs : List ℕ) : Type 0 where
+  pub stop : r .stop ≡ Stopped.end 0
+  pub made : r .steps ≡ steps
+  pub shown : r .bytes ≡ bs
+  pub state : r .machine .state ≡ record { remaining = Code.finished; self = Σ; program = Π; heap = h; end-mark = 0 }
+
+-- the run ended for lack of room at the instruction i: the reachable frames plus f exceed F, or the reachable made texts plus t exceed T
+pub data EndsFull (F T : ℕ) (r : Ran) : Type 0 where
+  frames-full : (i : Instruction Path) (rest : Code Path) → r .stop ≡ Stopped.end 36 → r .machine .state .remaining ≡ (i then rest) →
+      F < frame-total (r .machine .state) + frame-literals (right-side i) → EndsFull F T r
+  texts-full : (i : Instruction Path) (rest : Code Path) → r .stop ≡ Stopped.end 37 → r .machine .state .remaining ≡ (i then rest) →
+      T < text-total (r .machine .state) + join-signs (right-side i) → EndsFull F T r
+
+-- runs of the machine u lead there
+pub record Leads (p : Program) (u : Unbounded) (Σ Π : Value) (h : Heap) (bs : List ℕ) : Type 0 where
+  -- with fuel for the steps and space for the bytes a run is done, unless it ends for lack of room
+  pub steps : ℕ
+  pub done-or-full : (F T fuel space : ℕ) → steps ≤ fuel → length bs ≤ space →
+      Done (run p F T fuel space u) steps Σ Π h bs ⊎ EndsFull F T (run p F T fuel space u)
+  -- with room for so many frames and made texts it is done
+  pub frames : ℕ
+  pub texts : ℕ
+  pub done : (F T fuel space : ℕ) → frames ≤ F → texts ≤ T → steps ≤ fuel → length bs ≤ space → Done (run p F T fuel space u) steps Σ Π h bs
+
+-- the unbounded machine's runs are C
+pub record RunJudged : Type 0 where
+  -- a run that stops with 0 has done what C says
+  pub done : (p : Program) (F T fuel space : ℕ) (u : Unbounded) →
+      let r = run p F T fuel space u in
+      let t = r .machine .state in
+      r .stop ≡ Stopped.end 0 →
+      RunsTo p (u .state) (t .self) (t .program) (t .heap) (r .bytes) × Done r (r .steps) (t .self) (t .program) (t .heap) (r .bytes)
+  -- where C holds, runs of a machine without end mark lead there
+  pub leads : (p : Program) (u : Unbounded) (Σ Π : Value) (h : Heap) (bs : List ℕ) → u .state .end-mark ≡ 0 →
+      RunsTo p (u .state) Σ Π h bs → Leads p u Σ Π h bs
+  -- C is deterministic
+  pub one-result : (p : Program) (s : State) (Σ Π Σ′ Π′ : Value) (h h′ : Heap) (bs bs′ : List ℕ) → RunsTo p s Σ Π h bs → RunsTo p s Σ′ Π′ h′ bs′ →
+      (Σ ≡ Σ′) × (Π ≡ Π′) × (h ≡ h′) × (bs ≡ bs′)
+
+-- the unbounded machine's runs of the program of an accepted source are P-Run
+pub record ProgramJudged (p : Program) : Type 0 where
+  -- Fetch along Main, start from the program frame gives the code at which it starts
+  pub start-fetched : Fetch⇒ (start p .heap .frames) (start p .program) (start-path p) (Value.Code (p .start))
+  -- P-Run is C from the start
+  pub from-start : (Σ Π : Value) (h : Heap) (bs : List ℕ) → P⇒ p Σ Π h bs ↔ RunsTo p (start p) Σ Π h bs
+  -- so a run from the start that stops with 0 has done what P-Run says, and where P-Run holds, runs from the start lead there
+  pub done : (F T fuel space : ℕ) →
+      let r = run p F T fuel space (at-start p) in
+      let t = r .machine .state in
+      r .stop ≡ Stopped.end 0 → P⇒ p (t .self) (t .program) (t .heap) (r .bytes)
+  pub leads : (Σ Π : Value) (h : Heap) (bs : List ℕ) → P⇒ p Σ Π h bs → Leads p (at-start p) Σ Π h bs
+
+abbrev pub AcceptedJudged : Type 0
+AcceptedJudged = (m : Lengths) (source : List ℕ) (F T : ℕ) (p : Program) → refusal m source F T ≡ 0 → program source ≡ some p → ProgramJudged p
 
 -- a total is the length of a duplicate-free list of exactly the numbers in question
 pub record Counts (In : ℕ → Type 0) (total : ℕ) : Type 0 where
