@@ -1,8 +1,13 @@
 pub mod General
+pub mod Lists
 pub mod TokensExact
 pub mod ParseExact
 pub mod ParseFuel
 pub mod Accepted
+pub mod PiecesExact
+pub mod NamesExact
+pub mod MainStart
+pub mod RefusalTests
 pub mod RefusalLowest
 pub mod ReachCounts
 pub mod FetchExact

@@ -1,35 +1,32 @@
 -- `Meaning.refusal` is the lowest number that holds, and 0 exactly when none holds (demand 2, for the definitions). Assumes nothing.
 use mathlib.Core.Path.{_≡_, refl, sym, _∙_, ap, subst}
 use mathlib.Core.Logic.{_↔_}
-use mathlib.Core.Bool.{Bool, true, false, not, _&&_, true≢false, false≢true}
+use mathlib.Core.Bool.{Bool, true, false, not, true≢false, false≢true}
 use mathlib.Core.List.{List, [], _∷_}
 use mathlib.Core.Option.{Option, none, some}
 use Prim.Native.Nat.{ℕ, zero, suc, _+_, _≤_, _<_}
 use native.Mathlib.Omega.{arith}
 use lib.ListN.{length}
-use lib.Dec.{T, leb, ltb, leb→le, le→leb, ltb→lt, lt→ltb}
-use Rattle.framed.specs.Common.{if_then_else_, between, any, count}
+use lib.Dec.{ltb}
+use borrow.Author.Tests.{not-true, ltb-true, leb-true, lt-ltb, le-leb}
+use Rattle.framed.specs.Common.{if_then_else_, any, count, Twice}
 use Rattle.framed.specs.Bytes.{class}
 use Rattle.framed.specs.Tokens.{Token, tokens, Tokens⊢, highest-nesting}
 use Rattle.framed.specs.Symbols.{symbols, name-table}
 use Rattle.framed.specs.Tree.{Written, Slots}
-use Rattle.framed.specs.Grammar.{Source}
 use Rattle.framed.specs.Parse.{parse}
-use Rattle.framed.specs.Meaning.{Lengths, refusal, right-lengths, pieces, misplaced, bad-frame, above-limit, too-far-up, main-start, is-none, frame-outside, lowest, arguments-refusal, meaning-refusal, tree-refusal, source-refusal}
-use Rattle.framed.specs.Refusals.{Holds, h1, h2, h3, h4, h5, h6, h7, h8, h9, h10, h11, h12}
+use Rattle.framed.specs.Paths.{Place, holder, above-program, program-place}
+use Rattle.framed.specs.Meaning.{Lengths, refusal, Piece, pieces, misplaced, bad-frame, too-far-up, main-start, is-none, frame-outside, lowest, arguments-refusal, meaning-refusal, tree-refusal, source-refusal}
+use Rattle.framed.specs.Occurrences.{Occurs, program-frame, in-program-frame}
+use Rattle.framed.specs.Refusals.{HasTree, BadSlots, Holds, h1, h2, h3, h4, h5, h6, h7, h8, h9, h10, h11, h12}
 use Rattle.framed.specs.Theorems.{RefusalLowest}
-use Rattle.framed.proofs.General.{none≢some, is-true, to-true}
+use Rattle.framed.proofs.General.{none≢some}
+use Rattle.framed.proofs.Lists.{any-found, any-finds}
 use Rattle.framed.proofs.TokensExact.{tokens-agree}
 use Rattle.framed.proofs.ParseExact.{parse-agrees}
-
--- ---- Tests
-
-not-false : {b : Bool} → b ≡ false → not b ≡ true
-not-false p = rw p
-
-from-not : (b : Bool) → not b ≡ true → b ≡ false
-from-not true e = absurd (false≢true e)
-from-not false e = refl
+use Rattle.framed.proofs.PiecesExact.{occurrence-to, occurrence-from}
+use Rattle.framed.proofs.MainStart.{slot-frame, start-written, start-found}
+use Rattle.framed.proofs.RefusalTests.{is-other, other-false, is-out, out-false, is-misplaced, misplaced-true, is-bad, bad-true, is-above, above-true, frames-counted, frames-in}
 
 -- ---- `lowest`: a test that holds is the lowest or a lower one is
 
@@ -53,12 +50,12 @@ lowest-bound n [] = omega arith
 lowest-bound n (true ∷ bs) = omega arith
 lowest-bound n (false ∷ bs) = omega (arith, lowest-bound (suc n) bs)
 
--- the lowest is a test's number, and that test holds
+-- the lowest is a test's number, that test holds, and none before it does
 pick : {C : Type 0} {n : ℕ} (k : ℕ) (b : Bool) (bs : List Bool) → lowest (suc k) (b ∷ bs) ≡ suc n →
-    (b ≡ true → suc k ≡ suc n → C) → (lowest (suc (suc k)) bs ≡ suc n → C) → C
+    (b ≡ true → suc k ≡ suc n → C) → (b ≡ false → lowest (suc (suc k)) bs ≡ suc n → C) → C
 unfolding lowest
 pick k true bs e f g = f refl e
-pick k false bs e f g = g e
+pick k false bs e f g = g refl e
 
 none-left : {C : Type 0} {n : ℕ} (k : ℕ) → lowest k [] ≡ suc n → C
 unfolding lowest
@@ -105,46 +102,49 @@ module _ (m : Lengths) (source : List ℕ) (F T : ℕ) where
   by-tokens : {ts : List Token} → Tokens⊢ class source ts → (k : ℕ) → 3 < k → Found (source-refusal (some ts) F) k → Found (refusal m source F T) k
   by-tokens {ts} d k l f = by-source k l (subst (λ (o : Option (List Token)). Found (source-refusal o F) k) (sym (tokens-agree class source ts .1 d)) f)
 
-  by-tree : {ts : List Token} {ss : Slots Written} → Tokens⊢ class source ts → Source (symbols ts) ss → (k : ℕ) → 4 < k →
-      Found (meaning-refusal (name-table ts) ss F) k → Found (refusal m source F T) k
+  by-tree : {ts : List Token} {ss : Slots Written} → HasTree source ts ss → (k : ℕ) → 4 < k → Found (meaning-refusal (name-table ts) ss F) k → Found (refusal m source F T) k
   unfolding source-refusal tree-refusal
-  by-tree {ts} {ss} c d k l f =
-      by-tokens c k (omega arith)
+  by-tree {ts} {ss} t k l f =
+      by-tokens (t .tokens) k (omega arith)
       (found-nested (ltb 16 (highest-nesting 0 ts)) _ k l
-      (subst (λ (o : Option (Slots Written)). Found (tree-refusal (name-table ts) o F) k) (sym (parse-agrees (symbols ts) ss .1 d)) f))
+      (subst (λ (o : Option (Slots Written)). Found (tree-refusal (name-table ts) o F) k) (sym (parse-agrees (symbols ts) ss .1 (t .tree))) f))
 
   found : {k : ℕ} → Holds m source F T k → Found (refusal m source F T) k
-  unfolding arguments-refusal source-refusal tree-refusal meaning-refusal is-none
-  found (h1 e) = by-arguments 1 (found-here 0 _ _ (not-false e))
-  found (h2 e) = by-arguments 2 (found-later 0 2 _ _ (omega arith) (found-here 1 _ _ (not-false e)))
+  unfolding arguments-refusal source-refusal tree-refusal meaning-refusal is-none too-far-up above-program
+  found (h1 w) = by-arguments 1 (found-here 0 _ _ (ap not (other-false m w)))
+  found (h2 w) = by-arguments 2 (found-later 0 2 _ _ (omega arith) (found-here 1 _ _ (ap not (out-false F T w))))
   found (h3 l) =
-      by-arguments 3 (found-later 0 3 _ _ (omega arith) (found-later 1 3 _ _ (omega arith) (found-here 2 _ _ (to-true {b = ltb 16384 (length source)} (lt→ltb _ _ l)))))
+      by-arguments 3 (found-later 0 3 _ _ (omega arith) (found-later 1 3 _ _ (omega arith) (found-here 2 _ _ (lt-ltb 16384 (length source) l))))
   found (h4 f) =
       by-source 4 (omega arith)
       (subst (λ (o : Option (List Token)). Found (source-refusal o F) 4) (sym (none-or-some (tokens class source) (λ ts e. f ts (tokens-agree class source ts .0 e)))) (omega arith))
   found (h5 {ts} d l) =
       by-tokens d 5 (omega arith)
-      (subst (λ (t : Bool). Found (if t then 5 else tree-refusal (name-table ts) (parse (symbols ts)) F) 5) (sym (to-true {b = ltb 16 (highest-nesting 0 ts)} (lt→ltb _ _ l))) (omega arith))
+      (subst (λ (t : Bool). Found (if t then 5 else tree-refusal (name-table ts) (parse (symbols ts)) F) 5) (sym (lt-ltb 16 (highest-nesting 0 ts) l)) (omega arith))
   found (h6 {ts} d f) =
       by-tokens d 6 (omega arith)
       (found-nested (ltb 16 (highest-nesting 0 ts)) _ 6 (omega arith)
       (subst (λ (o : Option (Slots Written)). Found (tree-refusal (name-table ts) o F) 6)
       (sym (none-or-some (parse (symbols ts)) (λ ss e. f ss (parse-agrees (symbols ts) ss .0 e)))) (omega arith)))
-  found (h7 c d e) = by-tree c d 7 (omega arith) (found-here 6 _ _ e)
-  found (h8 c d e) = by-tree c d 8 (omega arith) (found-later 6 8 _ _ (omega arith) (found-here 7 _ _ e))
-  found (h9 c d e) = by-tree c d 9 (omega arith) (found-later 6 9 _ _ (omega arith) (found-later 7 9 _ _ (omega arith) (found-here 8 _ _ e)))
-  found (h10 c d e) =
-      by-tree c d 10 (omega arith)
-      (found-later 6 10 _ _ (omega arith) (found-later 7 10 _ _ (omega arith) (found-later 8 10 _ _ (omega arith) (found-here 9 _ _ e))))
-  found (h11 c d e) =
-      by-tree c d 11 (omega arith)
+  found (h7 t d w) = by-tree t 7 (omega arith) (found-here 6 _ _ (any-found misplaced (occurrence-to d) (misplaced-true w)))
+  found (h8 {place = place} {ns = ns} t d w) =
+      by-tree t 8 (omega arith) (found-later 6 8 _ _ (omega arith) (found-here 7 _ _ (any-found bad-frame (occurrence-to d) (bad-true place ns w))))
+  found (h9 {ts} {ss} t w) =
+      by-tree t 9 (omega arith) (found-later 6 9 _ _ (omega arith) (found-later 7 9 _ _ (omega arith) (found-here 8 _ _ (above-true (name-table ts) (pieces ss) w))))
+  found (h10 {place = place} {further = further} t d l) =
+      by-tree t 10 (omega arith)
+      (found-later 6 10 _ _ (omega arith) (found-later 7 10 _ _ (omega arith) (found-later 8 10 _ _ (omega arith)
+      (found-here 9 _ _ (any-found too-far-up (occurrence-to d) (lt-ltb (length (holder place)) further l))))))
+  found (h11 {ts} {ss} t f) =
+      by-tree t 11 (omega arith)
       (found-later 6 11 _ _ (omega arith) (found-later 7 11 _ _ (omega arith) (found-later 8 11 _ _ (omega arith)
-      (found-later 9 11 _ _ (omega arith) (found-here 10 _ _ (ap is-none e))))))
-  found (h12 {ts} {ss} c d l) =
-      by-tree c d 12 (omega arith)
+      (found-later 9 11 _ _ (omega arith) (found-here 10 _ _
+      (ap is-none (none-or-some (main-start (name-table ts) ss) (λ k e. f (start-written ts ss (t .tree) e)))))))))
+  found (h12 {ss = ss} t d l) =
+      by-tree t 12 (omega arith)
       (found-later 6 12 _ _ (omega arith) (found-later 7 12 _ _ (omega arith) (found-later 8 12 _ _ (omega arith)
       (found-later 9 12 _ _ (omega arith) (found-later 10 12 _ _ (omega arith)
-      (found-here 11 _ _ (to-true {b = leb F (count frame-outside (pieces ss))} (le→leb _ _ l))))))))
+      (found-here 11 _ _ (le-leb F (count frame-outside (pieces ss)) (omega (arith, frames-counted d)))))))))
 
   -- ---- The refusal's number holds
 
@@ -154,9 +154,9 @@ module _ (m : Lengths) (source : List ℕ) (F T : ℕ) where
   arguments-hold : {n : ℕ} → arguments-refusal m source F T ≡ suc n → Holds m source F T (suc n)
   unfolding arguments-refusal
   arguments-hold e =
-      pick 0 _ _ e (λ b q. at q (h1 (from-not _ b))) λ e.
-      pick 1 _ _ e (λ b q. at q (h2 (from-not _ b))) λ e.
-      pick 2 _ _ e (λ b q. at q (h3 (ltb→lt 16384 (length source) (is-true b)))) λ e.
+      pick 0 _ _ e (λ b q. at q (h1 (is-other m (not-true _ b)))) λ _ e.
+      pick 1 _ _ e (λ b q. at q (h2 (is-out F T (not-true _ b)))) λ _ e.
+      pick 2 _ _ e (λ b q. at q (h3 (ltb-true 16384 (length source) b))) λ _ e.
       none-left 4 e
 
   was-none : (o : Option ℕ) → is-none o ≡ true → o ≡ none
@@ -164,27 +164,49 @@ module _ (m : Lengths) (source : List ℕ) (F T : ℕ) where
   was-none none e = refl
   was-none (some k) e = absurd (false≢true e)
 
-  meaning-holds : {n : ℕ} (ts : List Token) (ss : Slots Written) → Tokens⊢ class source ts → Source (symbols ts) ss →
-      meaning-refusal (name-table ts) ss F ≡ suc n → Holds m source F T (suc n)
-  unfolding meaning-refusal
-  meaning-holds ts ss c d e =
-      pick 6 _ _ e (λ b q. at q (h7 c d b)) λ e.
-      pick 7 _ _ e (λ b q. at q (h8 c d b)) λ e.
-      pick 8 _ _ e (λ b q. at q (h9 c d b)) λ e.
-      pick 9 _ _ e (λ b q. at q (h10 c d b)) λ e.
-      pick 10 _ _ e (λ b q. at q (h11 c d (was-none _ b))) λ e.
-      pick 11 _ _ e (λ b q. at q (h12 c d (leb→le F (count frame-outside (pieces ss)) (is-true b)))) λ e.
-      none-left 13 e
+  module _ {ts : List Token} {ss : Slots Written} (t : HasTree source ts ss) where
+    frame-holds : (x : Piece) → Occurs ss x → bad-frame x ≡ true → Holds m source F T 8
+    unfolding bad-frame
+    frame-holds (Piece.frame place ns) d e = h8 t d (is-bad place ns e)
+    frame-holds (Piece.path place p) d e = absurd (false≢true e)
+    frame-holds (Piece.operator place) d e = absurd (false≢true e)
+    frame-holds (Piece.one k) d e = absurd (false≢true e)
+
+    path-holds : (x : Piece) → Occurs ss x → too-far-up x ≡ true → Holds m source F T 10
+    unfolding too-far-up above-program
+    path-holds (Piece.frame place ns) d e = absurd (false≢true e)
+    path-holds (Piece.path place (Written.self ns)) d e = absurd (false≢true e)
+    path-holds (Piece.path place (Written.up further ns)) d e = h10 t d (ltb-true (length (holder place)) further e)
+    path-holds (Piece.operator place) d e = absurd (false≢true e)
+    path-holds (Piece.one k) d e = absurd (false≢true e)
+
+    -- where 8 does not hold
+    no-start : any bad-frame (pieces ss) ≡ false → main-start (name-table ts) ss ≡ none → Holds m source F T 11
+    no-start b e = h11 t (λ w. none≢some (sym e ∙ start-found ts ss (once program-frame) (λ n us h. once (in-program-frame (slot-frame program-place h))) w))
+      where
+        once : {place : Place} {ns : List ℕ} → Occurs ss (Piece.frame place ns) → ¬ Twice ns
+        once {place} {ns} d w = true≢false (sym (any-found bad-frame (occurrence-to d) (bad-true place ns (BadSlots.twice w))) ∙ b)
+
+    meaning-holds : {n : ℕ} → meaning-refusal (name-table ts) ss F ≡ suc n → Holds m source F T (suc n)
+    unfolding meaning-refusal
+    meaning-holds e =
+        pick 6 _ _ e (λ b q. at q (let r = any-finds misplaced (pieces ss) b in h7 t (occurrence-from (r .1)) (is-misplaced (r .0) (r .2)))) λ _ e.
+        pick 7 _ _ e (λ b q. at q (let r = any-finds bad-frame (pieces ss) b in frame-holds (r .0) (occurrence-from (r .1)) (r .2))) λ b8 e.
+        pick 8 _ _ e (λ b q. at q (h9 t (is-above (name-table ts) (pieces ss) b))) λ _ e.
+        pick 9 _ _ e (λ b q. at q (let r = any-finds too-far-up (pieces ss) b in path-holds (r .0) (occurrence-from (r .1)) (r .2))) λ _ e.
+        pick 10 _ _ e (λ b q. at q (no-start b8 (was-none _ b))) λ _ e.
+        pick 11 _ _ e (λ b q. at q (let r = frames-in ss in h12 t (r .1) (omega (arith, leb-true F (count frame-outside (pieces ss)) b, frames-counted (r .1))))) λ _ e.
+        none-left 13 e
 
   tree-holds : {n : ℕ} (ts : List Token) → Tokens⊢ class source ts → (o : Option (Slots Written)) → parse (symbols ts) ≡ o →
       tree-refusal (name-table ts) o F ≡ suc n → Holds m source F T (suc n)
   unfolding tree-refusal
   tree-holds ts c none p e = at e (h6 c (λ ss d. none≢some (sym p ∙ parse-agrees (symbols ts) ss .1 d)))
-  tree-holds ts c (some ss) p e = meaning-holds ts ss c (parse-agrees (symbols ts) ss .0 p) e
+  tree-holds ts c (some ss) p e = meaning-holds (record { tokens = c; tree = parse-agrees (symbols ts) ss .0 p }) e
 
   nesting-holds : {n : ℕ} (ts : List Token) → Tokens⊢ class source ts → (t : Bool) → ltb 16 (highest-nesting 0 ts) ≡ t →
       (if t then 5 else tree-refusal (name-table ts) (parse (symbols ts)) F) ≡ suc n → Holds m source F T (suc n)
-  nesting-holds ts c true p e = at e (h5 c (ltb→lt 16 (highest-nesting 0 ts) (is-true p)))
+  nesting-holds ts c true p e = at e (h5 c (ltb-true 16 (highest-nesting 0 ts) p))
   nesting-holds ts c false p e = tree-holds ts c (parse (symbols ts)) refl e
 
   source-holds : {n : ℕ} (o : Option (List Token)) → tokens class source ≡ o → source-refusal o F ≡ suc n → Holds m source F T (suc n)

@@ -8,6 +8,7 @@ pub mod Grammar
 pub mod Parse
 pub mod Paths
 pub mod Meaning
+pub mod Occurrences
 pub mod Refusals
 pub mod Program
 pub mod Accepted

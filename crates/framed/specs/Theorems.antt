@@ -8,15 +8,16 @@ use Prim.Native.Nat.{ℕ, suc, _+_, _≤_, _<_}
 use lib.ListN.{length}
 use Rattle.framed.specs.declared.Value.{Value}
 use Rattle.framed.specs.declared.Text.{Text}
-use Rattle.framed.specs.Common.{member, has-twice}
+use Rattle.framed.specs.Common.{member, has-twice, _∈_, Twice}
 use Rattle.framed.specs.Bytes.{Classes, class}
 use Rattle.framed.specs.Tokens.{Token, tokens, Tokens⊢}
-use Rattle.framed.specs.Symbols.{Symbol}
+use Rattle.framed.specs.Symbols.{Symbol, name-table}
 use Rattle.framed.specs.Tree.{Written, Slots, Instruction, Code, _then_}
 use Rattle.framed.specs.Grammar.{Source}
 use Rattle.framed.specs.Parse.{parse}
 use Rattle.framed.specs.Paths.{Path}
-use Rattle.framed.specs.Meaning.{Lengths, refusal}
+use Rattle.framed.specs.Meaning.{Piece, pieces, Lengths, refusal}
+use Rattle.framed.specs.Occurrences.{Occurs}
 use Rattle.framed.specs.Refusals.{Holds}
 use Rattle.framed.specs.Program.{Program, program}
 use Rattle.framed.specs.Values.{Frame, Heap}
@@ -31,10 +32,26 @@ use Rattle.framed.specs.Alike.{InReach}
 unfoldable pub TokensExact : Type 0
 TokensExact = (c : Classes) (bs : List ℕ) (ts : List Token) → (tokens c bs ≡ some ts) ↔ Tokens⊢ c bs ts
 
+-- the name table has each name of the tokens exactly once
+pub record NamesExact : Type 0 where
+  pub exactly : (ts : List Token) (w : List ℕ) → (w ∈ name-table ts) ↔ (Token.name w ∈ ts)
+  pub once : (ts : List Token) → ¬ Twice (name-table ts)
+
 -- the parser gives a tree exactly when the grammar derives it, and the grammar derives at most one
 pub record ParseExact : Type 0 where
   pub exact : (ts : List Symbol) (ss : Slots Written) → (parse ts ≡ some ss) ↔ Source ts ss
   pub one-tree : (ts : List Symbol) (ss us : Slots Written) → Source ts ss → Source ts us → ss ≡ us
+
+-- A and B correspond one to one
+pub record OneToOne (A B : Type 0) : Type 0 where
+  pub to : A → B
+  pub from : B → A
+  pub from-to : (a : A) → from (to a) ≡ a
+  pub to-from : (b : B) → to (from b) ≡ b
+
+-- the list of pieces has each occurrence exactly once
+unfoldable pub PiecesExact : Type 0
+PiecesExact = (ss : Slots Written) (x : Piece) → OneToOne (Occurs ss x) (x ∈ pieces ss)
 
 -- the answer is 0 exactly when none of the conditions 1 to 12 holds, else the lowest that does
 pub record RefusalLowest : Type 0 where
