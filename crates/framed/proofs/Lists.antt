@@ -17,10 +17,10 @@ pub or-either : {C : Type 0} (a b : Bool) → (a || b) ≡ true → (a ≡ true 
 or-either true b e f g = f refl
 or-either false b e f g = g e
 
-pub or-left : {a : Bool} (b : Bool) → a ≡ true → (a || b) ≡ true
+or-left : {a : Bool} (b : Bool) → a ≡ true → (a || b) ≡ true
 or-left b e = rw e
 
-pub or-right : (a : Bool) {b : Bool} → b ≡ true → (a || b) ≡ true
+or-right : (a : Bool) {b : Bool} → b ≡ true → (a || b) ≡ true
 or-right a e = rw e (or-true a)
 
 -- ---- Places
@@ -59,7 +59,7 @@ module _ {A C : Type 0} where
   cases-behind [] f g m = refl
   cases-behind (y ∷ xs) f g m = cases-behind xs (λ n. f (later n)) g m
 
-  -- what holds of both parts holds of the whole: the way back
+  -- a map that agrees with another on both parts agrees with it on the whole
   pub cases-back : {B : Type 0} {x : A} (xs : List A) {ys : List A} (f : x ∈ xs → C) (g : x ∈ ys → C) (h : C → B) (k : x ∈ (xs ++ ys) → B) →
       ((m : x ∈ xs) → h (f m) ≡ k (in-front ys m)) → ((m : x ∈ ys) → h (g m) ≡ k (behind xs m)) → (m : x ∈ (xs ++ ys)) → h (cases xs f g m) ≡ k m
   unfolding cases in-front behind
@@ -92,11 +92,11 @@ module _ {A : Type 0} where
 
 -- ---- Numbers in a list
 
-pub member-true : {n : ℕ} {ns : List ℕ} → n ∈ ns → member n ns ≡ true
+member-true : {n : ℕ} {ns : List ℕ} → n ∈ ns → member n ns ≡ true
 unfolding member
 member-true {n} m = any-found (eqb n) m (eq-eqb n n refl)
 
-pub member-in : (n : ℕ) (ns : List ℕ) → member n ns ≡ true → n ∈ ns
+member-in : (n : ℕ) (ns : List ℕ) → member n ns ≡ true → n ∈ ns
 unfolding member
 member-in n ns e = let r = any-finds (eqb n) ns e in subst (λ (k : ℕ). k ∈ ns) (sym (eqb-true n (r .0) (r .2))) (r .1)
 

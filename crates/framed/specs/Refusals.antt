@@ -44,7 +44,7 @@ pub data BadSlots (ns : List ℕ) : Type 0 where
   twice : Twice ns → BadSlots ns
   too-many : 16 < length ns → BadSlots ns
 
--- 9: a count above its limit. `pieces` has each occurrence exactly once (`proofs/PiecesExact`)
+-- 9: a count above its limit. The name table has each name, and the list of pieces each occurrence, exactly once (`proofs/NamesExact`, `proofs/PiecesExact`)
 pub data AboveLimit (table : List (List ℕ)) (ps : List Piece) : Type 0 where
   names : 128 < length table → AboveLimit table ps
   instructions : 512 < count (is-one Kind.instruction) ps → AboveLimit table ps
@@ -53,11 +53,12 @@ pub data AboveLimit (table : List (List ℕ)) (ps : List Piece) : Type 0 where
   expressions : 1024 < count (is-one Kind.expression) ps → AboveLimit table ps
   names-in-paths : 2048 < total path-names ps → AboveLimit table ps
 
--- 11: a slot n := e stands among the slots; a written Main frame with a code in start
+-- 11: the slot n := e stands among the slots
 pub data HasSlot (n : ℕ) (e : Expression Written) : Slots Written → Type 0 where
   here : {ss : Slots Written} → HasSlot n e (Slots.slot n e ss)
   later : {m : ℕ} {f : Expression Written} {ss : Slots Written} → HasSlot n e ss → HasSlot n e (Slots.slot m f ss)
 
+-- a written Main frame with a code in start. `main` and `start` are the numbers of these names
 pub record MainStart (table : List (List ℕ)) (ss : Slots Written) : Type 0 where
   pub main : ℕ
   pub start : ℕ
@@ -69,7 +70,7 @@ pub record MainStart (table : List (List ℕ)) (ss : Slots Written) : Type 0 whe
   pub code : Code Written
   pub start-slot : HasSlot start (Expression.base (Base.code number code)) slots
 
--- 12: the number of frames that are written outside code, in an expression and in slots
+-- 12: the number of frames that are written outside code, in an expression and in slots. A base has none: its code is code
 mutual
   pub data FramesInExpression : Expression Written → ℕ → Type 0 where
     base : {b : Base Written} → FramesInExpression (Expression.base b) 0
