@@ -5,7 +5,7 @@ use mathlib.Core.List.{List, [], _∷_, _++_}
 use Prim.Native.Nat.{ℕ, zero, suc, _+_, _<_}
 use native.Mathlib.Omega.{arith}
 use lib.ListN.{length, getD}
-use Rattle.framed.specs.Common.{any, count, total}
+use Rattle.framed.specs.Common.{any, total}
 
 -- neither holds
 pub or-none : (a b : Bool) → a || b ≡ false → (a ≡ false) × (b ≡ false)
@@ -27,16 +27,6 @@ none-append test (x ∷ l) m e =
     (rw (h .0, g .0), g .1)
 
 -- ---- Counts
-
-pub count-append : {A : Type 0} (test : A → Bool) (l m : List A) → count test (l ++ m) ≡ count test l + count test m
-unfolding count
-count-append test [] m = omega arith
-count-append {A} test (x ∷ l) m = go (test x) (count-append test l m)
-  where
-    go : (t : Bool) → count test (l ++ m) ≡ count test l + count test m →
-        _≡_ {A = ℕ} (elim t [ true ↦ suc (count test (l ++ m)) | false ↦ count test (l ++ m) ]) ((elim t [ true ↦ suc (count test l) | false ↦ count test l ]) + count test m)
-    go true e = omega arith
-    go false e = e
 
 pub total-append : {A : Type 0} (weight : A → ℕ) (l m : List A) → total weight (l ++ m) ≡ total weight l + total weight m
 unfolding total

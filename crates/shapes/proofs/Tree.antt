@@ -16,7 +16,8 @@ use Rattle.framed.specs.Paths.{Place, outside-code, in-code, holder, within-slo
 use Rattle.framed.specs.Meaning.{Kind, Piece, slot-names, base-pieces, expression-pieces, slots-pieces, instruction-pieces, code-pieces, bad-frame, kind-number, is-one}
 use Rattle.shapes.specs.Numbers.{base-size, expression-size, slots-size, instruction-size, code-size}
 use Rattle.shapes.specs.Shape.{AllBelow, FrameShaped, BaseShaped, ExpressionShaped, SlotsShaped, InstructionShaped, CodeShaped}
-use Rattle.shapes.proofs.Lists.{or-none, none-append, count-append}
+use Rattle.framed.proofs.Lists.{count-append}
+use Rattle.shapes.proofs.Lists.{or-none, none-append}
 use Rattle.shapes.proofs.Names.{Ordered, ordered-at}
 
 -- ---- Names below N
