@@ -28,7 +28,11 @@ returns-3 c = search walked-free
 
 returns-4 : tie.Need-returns-4 Inv-loop μ-loop
 unfolding word
-returns-4 c = search walked-many
+returns-4 c =
+    let g = c .before .before .before .before in
+    let l = g .before .before .before .before in
+    walked-many _ _ _ _ _ _ _ _ (l .loop .inv) (g .before .before .before .loop-test .taken) (g .before .before .if1 .left) (g .before .if2 .left) _ (g .wide .ensures)
+    (c .before .before .if3 .left) (c .if4 .taken)
 
 returns-5 : tie.Need-returns-5 Inv-loop μ-loop
 unfolding word
