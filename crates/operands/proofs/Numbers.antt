@@ -1,20 +1,24 @@
 -- One law for each way through the functions on numbers: `slot_place`, `walk`, `quick`, `pack`, `operand_number` and `operand`. Assumes nothing.
 use Prim.Native.Nat.{ℕ, zero, suc, _+_, _-_, _*_, _/_, _%_, _^_, _≤_, _<_}
 use mathlib.Core.Path.{_≡_, refl, _∙_, ap, sym, subst}
-use mathlib.Core.Bool.{true, false, not}
-use mathlib.Core.List.{List}
+use mathlib.Core.Bool.{Bool, true, false, not}
+use mathlib.Core.List.{List, [], _∷_}
+use mathlib.Core.Option.{Option, some}
 use native.Mathlib.Omega.{arith}
-use native.Mathlib.Decide.{ℕ-discrete, decLt}
-use lib.Dec.{ltb}
+use native.Mathlib.Decide.{ℕ-discrete, decLe, decLt}
+use native.Mathlib.Numerals.{add-one}
+use lib.Dec.{eqb, ltb, leb}
+use lib.ListN.{length, drop, drop-of-length-le}
+use lib.Seq.{drop-cons}
 use mir.Syntax.{w32}
 use mir.Val.{Val, Fits, SFits}
 use denote.Laws.{Is}
 use denote.Enum.Declared.{row}
 use denote.Enum.Laws.{owed}
-use borrow.Author.Tests.{lt-ltb, le-ltb, eq-eqb, ne-eqb}
+use borrow.Author.Tests.{lt-ltb, le-ltb, le-leb, lt-leb, eq-eqb, ne-eqb}
 use Rattle.framed.specs.declared.Text.{Text}
 use Rattle.framed.specs.declared.Value.{Value}
-use Rattle.framed.specs.Fetch.{frame-of, get, _>>=_}
+use Rattle.framed.specs.Fetch.{frame-of, get, fetch, _>>=_}
 use Rattle.framed.specs.Machine.{defined}
 use Rattle.framed.proofs.Value.{the-type}
 use Rattle.framed.proofs.Value.Laws.{the-laws}
@@ -27,13 +31,14 @@ use Rattle.heap.specs.Words.{value-of, tag-of, number-of, self-held, program-he
 use Rattle.heap.specs.Words.{frame-word, frame-used, slot-count-at, slot-name-at, slot-tag-at, slot-number-at, slot-value-at}
 use Rattle.heap.specs.Held.{slots-held, frames-held}
 use Rattle.heap.specs.Closed.{ValueFits}
+use Rattle.heap.proofs.Lists.{listed-at}
 use Rattle.heap.proofs.Laws.{value-back}
 use Rattle.paths.specs.declared.SlotFound.{SlotFound}
 use Rattle.paths.specs.declared.Fetched.{Fetched}
-use Rattle.paths.specs.Paths.{slot-from, fetched}
+use Rattle.paths.specs.Paths.{slot-from, fetched, path-held}
 use Rattle.paths.proofs.Laws.{Find, find-start, find-gone, find-here, find-again, get-past, get-free, get-missing, get-found}
-use Rattle.paths.proofs.Laws.{Walk, walk-start, walk-done, walk-undefined, walk-again}
-use Rattle.operands.specs.Operands.{operand-value, unpacked, place-of, Placed, Walked, Quick}
+use Rattle.paths.proofs.Laws.{path-length}
+use Rattle.operands.specs.Operands.{operand-value, unpacked, place-of, Placed, place-in, walk-number, path-number, entry-number, quick-number}
 use Rattle.operands.proofs.Laws.{is-integer, operand-literal, operand-self, operand-program, operand-code, operand-frame, operand-not, operand-operate, operand-bad}
 
 -- ---- Values as numbers
@@ -138,183 +143,295 @@ high-frame : (tag f : ℕ) → 4 ≤ tag → value-of tag f ≡ Value.Frame f
 unfolding value-of
 high-frame tag f le = rw (ne-eqb tag 0 (λ z. omega arith), ne-eqb tag 1 (λ z. omega arith), ne-eqb tag 2 (λ z. omega arith), ne-eqb tag 3 (λ z. omega arith))
 
--- at name i the tag and the number are those of the value from which the rest is fetched
+-- at name i, what is left to find from the value with this tag and number is the answer
 pub record Along (p h : List ℕ) (root j n tag f i : ℕ) : Type 0 where
   pub inside : i ≤ n
   pub number : Fits w32 f
-  pub walk : Walk h p (value-of (word h root) (word h (root + 1))) (j - 2496) n (value-of tag f) i
+  pub rest : walk-number h tag f (drop i (path-held p (j - 2496) n)) ≡ path-number p h root (j - 2496) n
 
 pub along-start : (p h : List ℕ) (root j n : ℕ) → Fits w32 (word h (root + 1)) → Along p h root j n (word h root) (word h (root + 1)) 0
-along-start p h root j n lt = record { inside = omega arith; number = lt; walk = walk-start h p (value-of (word h root) (word h (root + 1))) (j - 2496) n }
-
-pub walked-six : (p h : List ℕ) (root j n : ℕ) → Walked p h root j n 6
-walked-six p h root j n = record { says = λ ne. absurd (ne refl) }
+unfolding path-number
+along-start p h root j n lt = record { inside = omega arith; number = lt; rest = refl }
 
 module _ (p h : List ℕ) (root j n tag f i : ℕ) (s : Along p h root j n tag f i) where
-  pub walked-value : n ≤ i → tag ≤ 4 → Walked p h root j n (f * 8 + tag)
-  walked-value le small =
-      record { says = λ ne. rw (number-value tag f small (s .number)) (walk-done h p _ (j - 2496) n (value-of tag f) i (s .walk) le) }
+  walked-all : n ≤ i → pick (leb tag 4) (f * 8 + tag) 6 ≡ path-number p h root (j - 2496) n
+  unfolding walk-number
+  walked-all le = let l = path-length p (j - 2496) n in rw (drop-of-length-le (path-held p (j - 2496) n) {i = i} (omega arith)) at (s .rest)
+
+  module _ (le : n ≤ i) where
+    pub walked-value : tag ≤ 4 → f * 8 + tag ≡ path-number p h root (j - 2496) n
+    walked-value small = rw (le-leb tag 4 small) at (walked-all le)
+
+    pub walked-high : 4 < tag → 6 ≡ path-number p h root (j - 2496) n
+    walked-high high = rw (lt-leb tag 4 high) at (walked-all le)
 
   module _ (lt : i < n) where
-    undefined-here : ((x : ℕ) → fetched Fetched.Undefined ≡ get (frames-held h) (value-of tag f) x) → Walked p h root j n 5
-    unfolding unpacked
-    undefined-here e =
-        record { says = λ ne. walk-undefined h p _ (j - 2496) n (value-of tag f) i (s .walk) lt (path-name p (j - 2496 + i)) refl Fetched.Undefined (e _) refl }
+    abbrev name : ℕ
+    name = path-name p (j - 2496 + i)
 
-    pub walked-low : tag < 4 → Walked p h root j n 5
-    walked-low low = undefined-here (λ x. low-none h tag f x low)
+    abbrev place : ℕ
+    place = place-in h f name
+
+    walk-turn :
+        pick (ltb tag 4) 5
+        (pick (leb 256 f) 5
+        (pick (frame-used h f)
+        (pick (leb (slot-count-at h f) 16) (pick (eqb place 0) 5 (walk-number h (word h (place + 1)) (word h (place + 2)) (drop (i + 1) (path-held p (j - 2496) n)))) 6)
+        5)) ≡ path-number p h root (j - 2496) n
+    unfolding walk-number path-held
+    walk-turn =
+        let l = path-length p (j - 2496) n in
+        rw (add-one i) (rw (drop-cons (path-held p (j - 2496) n) i 0 (omega arith), listed-at {A = ℕ} _ n i 0 lt) at (s .rest))
+
+    pub walked-low : tag < 4 → 5 ≡ path-number p h root (j - 2496) n
+    walked-low low = rw (lt-ltb tag 4 low) at walk-turn
 
     module _ (le : 4 ≤ tag) where
-      pub walked-past : 256 ≤ f → Walked p h root j n 5
-      walked-past far = undefined-here (λ x. get-past h x (value-of tag f) f (high-frame tag f le) far)
+      pub walked-past : 256 ≤ f → 5 ≡ path-number p h root (j - 2496) n
+      walked-past far = rw (le-ltb tag 4 le, le-leb 256 f far) at walk-turn
 
       module _ (lf : f < 256) (w : ℕ) (ew : w ≡ f) where
-        frame-free : (word h (128 + 51 * w) ≡ 1 → ⊥) → not (frame-used h f) ≡ true
+        pub walked-free : (word h (128 + 51 * w) ≡ 1 → ⊥) → 5 ≡ path-number p h root (j - 2496) n
         unfolding frame-used frame-word
-        frame-free ne = rw (← ew, ne-eqb (word h (128 + 51 * w)) 1 ne)
+        walked-free ne =
+            let u : frame-used h f ≡ false = rw (← ew, ne-eqb (word h (128 + 51 * w)) 1 ne) in
+            rw (le-ltb tag 4 le, lt-leb 256 f lf, u) at walk-turn
 
-        frame-taken : word h (128 + 51 * w) ≡ 1 → not (frame-used h f) ≡ false
-        unfolding frame-used frame-word
-        frame-taken e = rw (← ew, eq-eqb (word h (128 + 51 * w)) 1 e)
-
-        pub walked-free : (word h (128 + 51 * w) ≡ 1 → ⊥) → Walked p h root j n 5
-        walked-free ne = undefined-here (λ x. get-free h x (value-of tag f) f (high-frame tag f le) lf (frame-used h f) refl (frame-free ne))
-
-        module _ (u : word h (128 + 51 * w) ≡ 1) (start : 2496 ≤ j) (c k : ℕ) (ec : c ≡ word h (128 + 51 * w + 1)) (at : Placed h (128 + 51 * w + 3) c (word p (j + i)) k) where
-          name-is : word p (j + i) ≡ path-name p (j - 2496 + i)
-          unfolding path-name
-          name-is = ap (word p) (let q : j + i ≡ 2496 + (j - 2496 + i) = omega arith in q)
-
-          found : SlotFound
-          found = slot-from (slots-held h f) (word p (j + i)) 0
-
-          count-is : c ≡ slot-count-at h f
+        module _ (u : word h (128 + 51 * w) ≡ 1) where
+          count-is : word h (128 + 51 * w + 1) ≡ slot-count-at h f
           unfolding slot-count-at
-          count-is = ec ∙ ap (word h) (let q : 128 + 51 * w + 1 ≡ 129 + 51 * f = omega arith in q)
+          count-is = ap (word h) (let q : 128 + 51 * w + 1 ≡ 129 + 51 * f = omega arith in q)
 
-          place-is : k ≡ place-of (128 + 51 * w + 3) found
-          unfolding found
-          place-is = at .place f (omega arith) count-is
+          used-turn :
+              pick (leb (word h (128 + 51 * w + 1)) 16) (pick (eqb place 0) 5 (walk-number h (word h (place + 1)) (word h (place + 2)) (drop (i + 1) (path-held p (j - 2496) n)))) 6
+              ≡ path-number p h root (j - 2496) n
+          unfolding frame-used frame-word
+          used-turn =
+              let t : frame-used h f ≡ true = rw (← ew, eq-eqb (word h (128 + 51 * w)) 1 u) in
+              rw (le-ltb tag 4 le, lt-leb 256 f lf, t, ← count-is) at walk-turn
 
-          pub walked-missing : k ≡ 0 → Walked p h root j n 5
-          unfolding found place-of unpacked
-          walked-missing e = go found refl
-            where
-              go : (r : SlotFound) → r ≡ found → Walked p h root j n 5
-              go (SlotFound.At m) q = let z : k ≡ 128 + 51 * w + 3 + 3 * m = place-is ∙ ap (place-of (128 + 51 * w + 3)) (sym q) in absurd (omega arith)
-              go SlotFound.Missing q =
-                  let g : fetched Fetched.Undefined ≡ get (frames-held h) (value-of tag f) (word p (j + i)) = get-missing h (word p (j + i)) (value-of tag f) f (high-frame tag f le) lf (frame-used h f) refl (frame-taken u) SlotFound.Missing q refl in
-                  record { says = λ ne. walk-undefined h p _ (j - 2496) n (value-of tag f) i (s .walk) lt (word p (j + i)) name-is Fetched.Undefined g refl }
+          pub walked-many : 16 < word h (128 + 51 * w + 1) → 6 ≡ path-number p h root (j - 2496) n
+          walked-many many = rw (lt-leb (word h (128 + 51 * w + 1)) 16 many) at used-turn
 
-          pub along-again : (k ≡ 0 → ⊥) → Fits w32 (word h (k + 2)) → Along p h root j n (word h (k + 1)) (word h (k + 2)) (i + 1)
-          unfolding found place-of slot-value-at slot-tag-at slot-number-at
-          along-again ne small = go found refl
-            where
-              go : (r : SlotFound) → r ≡ found → Along p h root j n (word h (k + 1)) (word h (k + 2)) (i + 1)
-              go SlotFound.Missing q = absurd (ne (place-is ∙ ap (place-of (128 + 51 * w + 3)) (sym q)))
-              go (SlotFound.At m) q =
-                  let z : k ≡ 128 + 51 * w + 3 + 3 * m = place-is ∙ ap (place-of (128 + 51 * w + 3)) (sym q) in
-                  let t : k + 1 ≡ 132 + 51 * f + 3 * m = omega arith in
-                  let o : k + 2 ≡ 133 + 51 * f + 3 * m = omega arith in
-                  let v : value-of (word h (k + 1)) (word h (k + 2)) ≡ slot-value-at h f m = rw (t, o) in
-                  let g : fetched (Fetched.Found (value-of (word h (k + 1)) (word h (k + 2)))) ≡ get (frames-held h) (value-of tag f) (word p (j + i))
-                  = get-found h (word p (j + i)) (value-of tag f) f (high-frame tag f le) lf (frame-used h f) refl (frame-taken u) (SlotFound.At m) q m _ refl v in
-                  record {
-                    inside = omega arith;
-                    number = small;
-                    walk = walk-again h p _ (j - 2496) n (value-of tag f) i (s .walk) lt (word p (j + i)) name-is (Fetched.Found _) g _ refl;
-                  }
+          module _ (few : word h (128 + 51 * w + 1) ≤ 16) (start : 2496 ≤ j) (c k : ℕ) (ec : c ≡ word h (128 + 51 * w + 1)) (at : Placed h (128 + 51 * w + 3) c (word p (j + i)) k) where
+            place-is : k ≡ place
+            unfolding place-in path-name
+            place-is =
+                let a : 128 + 51 * w + 3 ≡ 131 + 51 * f = omega arith in
+                let q : j + i ≡ 2496 + (j - 2496 + i) = omega arith in
+                rw (a, q) at (at .place f a (ec ∙ count-is))
+
+            slot-turn : pick (eqb k 0) 5 (walk-number h (word h (k + 1)) (word h (k + 2)) (drop (i + 1) (path-held p (j - 2496) n))) ≡ path-number p h root (j - 2496) n
+            slot-turn = rw (le-leb (word h (128 + 51 * w + 1)) 16 few, ← place-is) at used-turn
+
+            pub walked-missing : k ≡ 0 → 5 ≡ path-number p h root (j - 2496) n
+            walked-missing e = rw (eq-eqb k 0 e) at slot-turn
+
+            pub along-again : (k ≡ 0 → ⊥) → Fits w32 (word h (k + 2)) → Along p h root j n (word h (k + 1)) (word h (k + 2)) (i + 1)
+            along-again ne small = record { inside = omega arith; number = small; rest = rw (ne-eqb k 0 ne) at slot-turn }
 
 -- ---- quick
 
-pub quick-six : (p h : List ℕ) (x : ℕ) → Quick p h x 6
-quick-six p h x = record { says = λ ne. absurd (ne refl) }
+module _ (p h : List ℕ) (x : ℕ) where
+  pub quick-program : (length p ≡ 16384 → ⊥) → 6 ≡ quick-number p h x
+  unfolding quick-number
+  quick-program ne = rw (ne-eqb (length p) 16384 ne)
 
--- by the kind of the entry; w is x
-module _ (p h : List ℕ) (x w : ℕ) (ew : w ≡ x) where
-  kind : ℕ
-  kind = word p (7104 + 5 * w)
+  module _ (ep : length p ≡ 16384) where
+    pub quick-heap : (length h ≡ 16384 → ⊥) → 6 ≡ quick-number p h x
+    unfolding quick-number
+    quick-heap ne = rw (eq-eqb (length p) 16384 ep, ne-eqb (length h) 16384 ne)
 
-  a : ℕ
-  a = word p (7104 + 5 * w + 1)
+    module _ (eh : length h ≡ 16384) where
+      pub quick-past : 1024 ≤ x → 6 ≡ quick-number p h x
+      unfolding quick-number
+      quick-past le = rw (eq-eqb (length p) 16384 ep, eq-eqb (length h) 16384 eh, le-ltb x 1024 le)
 
-  b : ℕ
-  b = word p (7104 + 5 * w + 2)
+      -- by the words of the entry; w is x
+      module _ (lt : x < 1024) (w : ℕ) (ew : w ≡ x) where
+        kind : ℕ
+        kind = word p (7104 + 5 * w)
 
-  entry : expression-of kind a b ≡ expression-at p x
-  unfolding kind a b expression-at expression-kind expression-a expression-b
-  entry =
-      let ea : 7104 + 5 * w + 1 ≡ 7105 + 5 * x = omega arith in
-      let eb : 7104 + 5 * w + 2 ≡ 7106 + 5 * x = omega arith in
-      rw (ea, eb, ew)
+        a : ℕ
+        a = word p (7104 + 5 * w + 1)
 
-  entry-of : (k : ℕ) → kind ≡ k → expression-of k a b ≡ expression-at p x
-  entry-of k e = rw e at entry
+        b : ℕ
+        b = word p (7104 + 5 * w + 2)
 
-  value-is : (k : ℕ) → k ≤ 4 → Fits w32 a → defined (fetched (Fetched.Found (value-of k a))) ≡ operand-value p h x → defined (fetched (unpacked (a * 8 + k))) ≡ operand-value p h x
-  value-is k le lt e = rw (number-value k a le lt) e
+        entry : entry-number p h kind a b ≡ quick-number p h x
+        unfolding kind a b quick-number expression-kind expression-a expression-b
+        entry =
+            let ea : 7104 + 5 * w + 1 ≡ 7105 + 5 * x = omega arith in
+            let eb : 7104 + 5 * w + 2 ≡ 7106 + 5 * x = omega arith in
+            rw (ea, eb, ew, eq-eqb (length p) 16384 ep, eq-eqb (length h) 16384 eh, lt-ltb x 1024 lt)
 
-  pub quick-literal : word p (7104 + 5 * w) < 2 → Fits w32 (word p (7104 + 5 * w + 1)) → Quick p h x (word p (7104 + 5 * w + 1) * 8 + word p (7104 + 5 * w))
-  unfolding kind a b expression-of value-of defined
-  quick-literal small lt = record { says = λ ne. go kind refl small }
+        pub quick-literal : word p (7104 + 5 * w) < 2 → word p (7104 + 5 * w + 1) * 8 + word p (7104 + 5 * w) ≡ quick-number p h x
+        unfolding kind a b entry-number
+        quick-literal small = rw (lt-ltb kind 2 small) at entry
+
+        module _ (ge : 2 ≤ word p (7104 + 5 * w)) where
+          module _ (low : word p (7104 + 5 * w) < 4) (j n : ℕ) (ej : j ≡ word p (7104 + 5 * w + 1)) (en : n ≡ word p (7104 + 5 * w + 2)) where
+            pub quick-outside : 2048 < j + n → 6 ≡ quick-number p h x
+            unfolding kind a b entry-number
+            quick-outside far = rw (le-ltb kind 2 ge, lt-ltb kind 4 low, ← ej, ← en, lt-leb (j + n) 2048 far) at entry
+
+            pub quick-path : j + n ≤ 2048 → (m r : ℕ) → m ≡ word p (7104 + 5 * w) → r ≡ path-number p h (2 * m - 4) (2496 + j - 2496) n → r ≡ quick-number p h x
+            unfolding kind a b entry-number
+            quick-path near m r em er =
+                let q : 2496 + j - 2496 ≡ j = omega arith in
+                rw (em, q) at er ∙ (rw (le-ltb kind 2 ge, lt-ltb kind 4 low, ← ej, ← en, le-leb (j + n) 2048 near) at entry)
+
+          module _ (high : 4 ≤ word p (7104 + 5 * w)) where
+            pub quick-code : word p (7104 + 5 * w) ≡ 4 → word p (7104 + 5 * w + 1) * 8 + 3 ≡ quick-number p h x
+            unfolding kind a b entry-number
+            quick-code e = rw (le-ltb kind 2 ge, le-ltb kind 4 high, eq-eqb kind 4 e) at entry
+
+            pub quick-other : (word p (7104 + 5 * w) ≡ 4 → ⊥) → 0 ≡ quick-number p h x
+            unfolding kind a b entry-number
+            quick-other ne = rw (le-ltb kind 2 ge, le-ltb kind 4 high, ne-eqb kind 4 ne) at entry
+
+-- ---- What the numbers stand for, where they are not 6
+
+not-six : (P : ℕ → Type 0) (b : Bool) (v : ℕ) → ((v ≡ 6 → ⊥) → P v) → (pick b v 6 ≡ 6 → ⊥) → P (pick b v 6)
+not-six P true v q ne = q ne
+not-six P false v q ne = absurd (ne refl)
+
+-- one name: from the slot's value on it is r, which stands for what is left to fetch
+module _ (h : List ℕ) (x tag f r : ℕ) (left : Value → Option Value) where
+  abbrev slot : ℕ
+  slot = place-in h f x
+
+  abbrev Means : ℕ → Type 0
+  Means v = fetched (unpacked v) ≡ _>>=_ (get (frames-held h) (value-of tag f) x) left
+
+  means-none : fetched Fetched.Undefined ≡ get (frames-held h) (value-of tag f) x → Means 5
+  unfolding unpacked _>>=_
+  means-none e = rw (← e)
+
+  means-some : (v : Value) → fetched (Fetched.Found v) ≡ get (frames-held h) (value-of tag f) x → fetched (unpacked r) ≡ left v → Means r
+  unfolding _>>=_
+  means-some v e q = rw (← e) q
+
+  means-slot : 4 ≤ tag → f < 256 → frame-used h f ≡ true → ((r ≡ 6 → ⊥) → fetched (unpacked r) ≡ left (value-of (word h (slot + 1)) (word h (slot + 2))))
+      → (pick (eqb slot 0) 5 r ≡ 6 → ⊥) → Means (pick (eqb slot 0) 5 r)
+  unfolding place-in place-of slot-value-at slot-tag-at slot-number-at
+  means-slot le lf u q = go (slot-from (slots-held h f) x 0) refl
     where
-      go : (k : ℕ) → kind ≡ k → k < 2 → defined (fetched (unpacked (a * 8 + k))) ≡ operand-value p h x
-      go zero e l = value-is 0 (omega arith) lt (sym (is-integer p h x (ExpressionEntry.Integer a) (entry-of 0 e) a refl))
-      go (suc zero) e l = value-is 1 (omega arith) lt (operand-literal p h x (ExpressionEntry.Literal a) (entry-of 1 e) a refl)
-      go (suc (suc k)) e l = absurd (omega arith)
+      go : (s : SlotFound) → s ≡ slot-from (slots-held h f) x 0 → (pick (eqb slot 0) 5 r ≡ 6 → ⊥) → Means (pick (eqb slot 0) 5 r)
+      go SlotFound.Missing e ne =
+          let z : slot ≡ 0 = ap (place-of (131 + 51 * f)) (sym e) in
+          rw (eq-eqb slot 0 z) (means-none (get-missing h x (value-of tag f) f (high-frame tag f le) lf (frame-used h f) refl (ap not u) SlotFound.Missing e refl))
+      go (SlotFound.At m) e ne =
+          let z : slot ≡ 131 + 51 * f + 3 * m = ap (place-of (131 + 51 * f)) (sym e) in
+          let t : slot + 1 ≡ 132 + 51 * f + 3 * m = omega arith in
+          let o : slot + 2 ≡ 133 + 51 * f + 3 * m = omega arith in
+          let v : value-of (word h (slot + 1)) (word h (slot + 2)) ≡ slot-value-at h f m = rw (t, o) in
+          let b = ne-eqb slot 0 (λ y. omega arith) in
+          rw b
+          (means-some _ (get-found h x (value-of tag f) f (high-frame tag f le) lf (frame-used h f) refl (ap not u) (SlotFound.At m) e m _ refl v)
+          (q (rw b at ne)))
 
-  pub quick-code : word p (7104 + 5 * w) ≡ 4 → Fits w32 (word p (7104 + 5 * w + 1)) → Quick p h x (word p (7104 + 5 * w + 1) * 8 + 3)
-  unfolding kind a b expression-of value-of
-  quick-code e lt = record { says = λ ne. value-is 3 (omega arith) lt (operand-code p h x (ExpressionEntry.Code a) (entry-of 4 e) a refl) }
-
-  past-not : 7 ≤ kind → pick (ltb kind 16) (ExpressionEntry.Operate kind a b) ExpressionEntry.Bad ≡ expression-at p x
-  unfolding expression-of
-  past-not le =
-      rw (
-        ne-eqb kind 0 (λ z. omega arith),
-        ne-eqb kind 1 (λ z. omega arith),
-        ne-eqb kind 2 (λ z. omega arith),
-        ne-eqb kind 3 (λ z. omega arith),
-        ne-eqb kind 4 (λ z. omega arith),
-        ne-eqb kind 5 (λ z. omega arith),
-        ne-eqb kind 6 (λ z. omega arith),
-      ) at entry
-
-  -- an entry that is no base
-  pub quick-other : 4 ≤ word p (7104 + 5 * w) → (word p (7104 + 5 * w) ≡ 4 → ⊥) → Quick p h x 0
-  unfolding kind expression-of value-of unpacked int-of
-  quick-other le ne = record { says = λ z. go (ℕ-discrete kind 5) (ℕ-discrete kind 6) (decLt kind 16) }
+  means-name : ((r ≡ 6 → ⊥) → fetched (unpacked r) ≡ left (value-of (word h (slot + 1)) (word h (slot + 2))))
+      → (pick (ltb tag 4) 5 (pick (leb 256 f) 5 (pick (frame-used h f) (pick (leb (slot-count-at h f) 16) (pick (eqb slot 0) 5 r) 6) 5)) ≡ 6 → ⊥)
+      → Means (pick (ltb tag 4) 5 (pick (leb 256 f) 5 (pick (frame-used h f) (pick (leb (slot-count-at h f) 16) (pick (eqb slot 0) 5 r) 6) 5)))
+  means-name q = go (decLt tag 4) (decLe 256 f) (frame-used h f) refl
     where
-      go : Dec (kind ≡ 5) → Dec (kind ≡ 6) → Dec (kind < 16) → defined (fetched (unpacked 0)) ≡ operand-value p h x
-      go (yes e) f l = operand-frame p h x (ExpressionEntry.Frame a) (entry-of 5 e) a refl
-      go (no d) (yes e) l = operand-not p h x (ExpressionEntry.Not a) (entry-of 6 e) a refl
-      go (no d) (no f) (yes l) =
-          operand-operate p h x (ExpressionEntry.Operate kind a b) (rw (lt-ltb kind 16 l) at (past-not (omega arith))) kind a b refl
-      go (no d) (no f) (no l) = operand-bad p h x ExpressionEntry.Bad (rw (le-ltb kind 16 (omega arith)) at (past-not (omega arith))) refl
+      go : Dec (tag < 4) → Dec (256 ≤ f) → (b : Bool) → frame-used h f ≡ b
+          → (pick (ltb tag 4) 5 (pick (leb 256 f) 5 (pick b (pick (leb (slot-count-at h f) 16) (pick (eqb slot 0) 5 r) 6) 5)) ≡ 6 → ⊥)
+          → Means (pick (ltb tag 4) 5 (pick (leb 256 f) 5 (pick b (pick (leb (slot-count-at h f) 16) (pick (eqb slot 0) 5 r) 6) 5)))
+      go (yes low) d b u ne = rw (lt-ltb tag 4 low) (means-none (low-none h tag f x low))
+      go (no high) (yes far) b u ne =
+          rw (le-ltb tag 4 (omega arith), le-leb 256 f far) (means-none (get-past h x (value-of tag f) f (high-frame tag f (omega arith)) far))
+      go (no high) (no near) false u ne =
+          rw (le-ltb tag 4 (omega arith), lt-leb 256 f (omega arith))
+          (means-none (get-free h x (value-of tag f) f (high-frame tag f (omega arith)) (omega arith) (frame-used h f) refl (ap not u)))
+      go (no high) (no near) true u ne =
+          let l = le-ltb tag 4 (omega arith) in
+          let m = lt-leb 256 f (omega arith) in
+          rw (l, m)
+          (not-six Means (leb (slot-count-at h f) 16) (pick (eqb slot 0) 5 r) (means-slot (omega arith) (omega arith) u q) (rw (l, m) at ne))
 
-  module _ (j n m r : ℕ) (ej : j ≡ word p (7104 + 5 * w + 1)) (en : n ≡ word p (7104 + 5 * w + 2)) (em : m ≡ word p (7104 + 5 * w)) (s : Walked p h (2 * m - 4) (2496 + j) n r) where
-    pub quick-path : 2 ≤ word p (7104 + 5 * w) → word p (7104 + 5 * w) < 4 → Quick p h x r
-    unfolding kind a b expression-of self-held program-held
-    quick-path le lt = record { says = λ ne. go kind refl le lt ne }
+walk-means : (h : List ℕ) → ((k : ℕ) → Fits w32 (word h k)) → (xs : List ℕ) (tag f : ℕ) → Fits w32 f → (walk-number h tag f xs ≡ 6 → ⊥)
+    → fetched (unpacked (walk-number h tag f xs)) ≡ fetch (frames-held h) (value-of tag f) xs
+unfolding walk-number fetch
+walk-means h fits [] tag f lt ne = go (decLe tag 4) ne
+  where
+    go : Dec (tag ≤ 4) → (pick (leb tag 4) (f * 8 + tag) 6 ≡ 6 → ⊥) → fetched (unpacked (pick (leb tag 4) (f * 8 + tag) 6)) ≡ some (value-of tag f)
+    go (yes le) ne = rw (le-leb tag 4 le, number-value tag f le lt)
+    go (no gt) ne = absurd (ne (rw (lt-leb tag 4 (omega arith))))
+walk-means h fits (x ∷ xs) tag f lt ne =
+    means-name h x tag f _ (λ v. fetch (frames-held h) v xs) (walk-means h fits xs _ _ (fits _)) ne
+
+-- by the kind, a and b of the entry
+module _ (p h : List ℕ) (x : ℕ) (fits : (k : ℕ) → Fits w32 (word h k)) where
+  abbrev Says : ℕ → Type 0
+  Says v = defined (fetched (unpacked v)) ≡ operand-value p h x
+
+  module _ (a b : ℕ) (small : Fits w32 a) where
+    value-is : (k : ℕ) → k ≤ 4 → defined (fetched (Fetched.Found (value-of k a))) ≡ operand-value p h x → Says (a * 8 + k)
+    value-is k le e = rw (number-value k a le small) e
+
+    path-means : (root : ℕ) → (path-number p h root a b ≡ 6 → ⊥)
+        → fetched (unpacked (path-number p h root a b)) ≡ fetch (frames-held h) (value-of (word h root) (word h (root + 1))) (path-held p a b)
+    unfolding path-number
+    path-means root = walk-means h fits (path-held p a b) (word h root) (word h (root + 1)) (fits (root + 1))
+
+    -- an entry that is no base
+    none-means : (k : ℕ) → 5 ≤ k → expression-of k a b ≡ expression-at p x → Says 0
+    unfolding expression-of value-of unpacked int-of
+    none-means k le e = go (ℕ-discrete k 5) (ℕ-discrete k 6) (decLt k 16)
       where
-        start : 2496 + j - 2496 ≡ j
-        start = omega arith
+        past-not : 7 ≤ k → pick (ltb k 16) (ExpressionEntry.Operate k a b) ExpressionEntry.Bad ≡ expression-at p x
+        past-not l =
+            rw (
+              ne-eqb k 0 (λ z. omega arith),
+              ne-eqb k 1 (λ z. omega arith),
+              ne-eqb k 2 (λ z. omega arith),
+              ne-eqb k 3 (λ z. omega arith),
+              ne-eqb k 4 (λ z. omega arith),
+              ne-eqb k 5 (λ z. omega arith),
+              ne-eqb k 6 (λ z. omega arith),
+            ) at e
 
-        go : (k : ℕ) → kind ≡ k → 2 ≤ k → k < 4 → (r ≡ 6 → ⊥) → defined (fetched (unpacked r)) ≡ operand-value p h x
-        go zero e l u ne = absurd (omega arith)
-        go (suc zero) e l u ne = absurd (omega arith)
-        go (suc (suc zero)) e l u ne = operand-self p h x (ExpressionEntry.FromSelf a b) (entry-of 2 e) a b (unpacked r) refl (rw (em, e, start, ej, en) at (s .says ne))
-        go (suc (suc (suc zero))) e l u ne = operand-program p h x (ExpressionEntry.FromProgram a b) (entry-of 3 e) a b (unpacked r) refl (rw (em, e, start, ej, en) at (s .says ne))
-        go (suc (suc (suc (suc k)))) e l u ne = absurd (omega arith)
+        go : Dec (k ≡ 5) → Dec (k ≡ 6) → Dec (k < 16) → Says 0
+        go (yes i) f l = operand-frame p h x (ExpressionEntry.Frame a) (rw i at e) a refl
+        go (no d) (yes i) l = operand-not p h x (ExpressionEntry.Not a) (rw i at e) a refl
+        go (no d) (no f) (yes l) =
+            operand-operate p h x (ExpressionEntry.Operate k a b) (rw (lt-ltb k 16 l) at (past-not (omega arith))) k a b refl
+        go (no d) (no f) (no l) = operand-bad p h x ExpressionEntry.Bad (rw (le-ltb k 16 (omega arith)) at (past-not (omega arith))) refl
+
+    entry-means : (k : ℕ) → expression-of k a b ≡ expression-at p x → (entry-number p h k a b ≡ 6 → ⊥) → Says (entry-number p h k a b)
+    unfolding entry-number expression-of value-of defined self-held program-held
+    entry-means zero e ne = value-is 0 (omega arith) (sym (is-integer p h x (ExpressionEntry.Integer a) e a refl))
+    entry-means (suc zero) e ne = value-is 1 (omega arith) (operand-literal p h x (ExpressionEntry.Literal a) e a refl)
+    entry-means (suc (suc zero)) e ne =
+        not-six Says (leb (a + b) 2048) (path-number p h 0 a b)
+        (λ z. operand-self p h x (ExpressionEntry.FromSelf a b) e a b (unpacked (path-number p h 0 a b)) refl (path-means 0 z)) ne
+    entry-means (suc (suc (suc zero))) e ne =
+        not-six Says (leb (a + b) 2048) (path-number p h 2 a b)
+        (λ z. operand-program p h x (ExpressionEntry.FromProgram a b) e a b (unpacked (path-number p h 2 a b)) refl (path-means 2 z)) ne
+    entry-means (suc (suc (suc (suc zero)))) e ne = value-is 3 (omega arith) (operand-code p h x (ExpressionEntry.Code a) e a refl)
+    entry-means (suc (suc (suc (suc (suc k))))) e ne =
+        let m = suc (suc (suc (suc (suc k)))) in
+        rw (le-ltb m 2 (omega arith), le-ltb m 4 (omega arith), ne-eqb m 4 (λ z. omega arith)) (none-means m (omega arith) e)
+
+  module _ (program-fits : (k : ℕ) → Fits w32 (word p k)) where
+    quick-means : (quick-number p h x ≡ 6 → ⊥) → Says (quick-number p h x)
+    unfolding quick-number expression-at expression-a
+    quick-means =
+        let t = entry-means (expression-a p x) (expression-b p x) (program-fits _) (expression-kind p x) refl in
+        let u = not-six Says (ltb x 1024) _ t in
+        let v = not-six Says (eqb (length h) 16384) _ u in
+        not-six Says (eqb (length p) 16384) _ v
+
+    pub quick-says : (r : ℕ) → r ≡ quick-number p h x → (r ≡ 6 → ⊥) → Says r
+    quick-says r e ne = rw e (quick-means (rw e at ne))
 
 -- ---- operand_number, operand
 
 module _ (p h : List ℕ) (x : ℕ) where
   pub number-tested : (s : ℕ) (r : Fetched) → unpacked s ≡ r → defined (fetched r) ≡ operand-value p h x → defined (fetched (unpacked s)) ≡ operand-value p h x
   number-tested s r e er = rw e er
-
-  pub number-quick : (s : ℕ) → Quick p h x s → (s ≡ 6 → ⊥) → defined (fetched (unpacked s)) ≡ operand-value p h x
-  number-quick s q ne = q .says ne
 
   module _ (s : ℕ) (es : defined (fetched (unpacked s)) ≡ operand-value p h x) where
     pub number-none : s ≡ 5 → defined (fetched Fetched.Undefined) ≡ operand-value p h x
@@ -324,10 +441,3 @@ module _ (p h : List ℕ) (x : ℕ) where
     pub number-some : (s ≡ 5 → ⊥) → (v : Value) → v ≡ value-of (s % 8) (s / 8 % 4294967296) → defined (fetched (Fetched.Found v)) ≡ operand-value p h x
     unfolding unpacked
     number-some ne v ev = rw ev (rw (ne-eqb s 5 ne) at es)
-
-  module _ (s : ℕ) (q : Quick p h x s) (known : s ≡ 6 → ⊥) where
-    pub quick-none : s ≡ 5 → defined (fetched Fetched.Undefined) ≡ operand-value p h x
-    quick-none = number-none s (q .says known)
-
-    pub quick-some : (s ≡ 5 → ⊥) → (v : Value) → v ≡ value-of (s % 8) (s / 8 % 4294967296) → defined (fetched (Fetched.Found v)) ≡ operand-value p h x
-    quick-some = number-some s (q .says known)

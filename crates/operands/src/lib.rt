@@ -6,12 +6,12 @@ use framed::Value;
 use paths::Fetched;
 use tables::ExpressionEntry;
 ghost use mathlib.Core.Path.{_≡_};
-ghost use Prim.Native.Nat.{_+_, _*_, _/_, _%_, _≤_};
+ghost use Prim.Native.Nat.{_+_, _-_, _*_, _/_, _%_, _≤_};
 ghost use lib.ListN.{length};
 ghost use Rattle.framed.specs.Machine.{defined};
 ghost use Rattle.heap.specs.Words.{value-of};
 ghost use Rattle.paths.specs.Paths.{fetched};
-ghost use Rattle.operands.specs.Operands.{operand-value, unpacked, Placed, AtPath, Walked, Quick};
+ghost use Rattle.operands.specs.Operands.{operand-value, unpacked, Placed, AtPath, path-number, quick-number};
 
 // The place of the slot with the name among the n slots from place a on, 0 where there is none.
 fn slot_place(h: &[u32], a: usize, n: usize, name: u32) -> usize
@@ -32,7 +32,7 @@ fn slot_place(h: &[u32], a: usize, n: usize, name: u32) -> usize
 // Fetch from the value at place root along the n path names from place j on: the value as a number, 5 where it is undefined; 6 where a word is not in its range.
 fn walk(p: &[u32], h: &[u32], root: usize, j: usize, n: usize) -> u64
     requires { ⌜ AtPath (now p) (now h) root j n ⌝ }
-    ensures { λ r. ⌜ Walked (now (p .entry)) (now (h .entry)) root j n r ⌝ }
+    ensures { λ r. ⌜ r ≡ path-number (now (p .entry)) (now (h .entry)) root (j - 2496) n ⌝ }
 {
     let mut tag = h[root];
     let mut f = h[root + 1];
@@ -68,7 +68,7 @@ fn walk(p: &[u32], h: &[u32], root: usize, j: usize, n: usize) -> u64
 
 // The value of expression x as a number, 5 where it is undefined; 6 where a memory has not its length or a word is not in its range.
 fn quick(p: &[u32], h: &[u32], x: u32) -> u64
-    ensures { λ r. ⌜ Quick (now (p .entry)) (now (h .entry)) x r ⌝ }
+    ensures { λ r. ⌜ r ≡ quick-number (now (p .entry)) (now (h .entry)) x ⌝ }
 {
     if p.len() != 16384 {
         return 6;

@@ -5,7 +5,7 @@ use mathlib.Core.List.{List}
 use mathlib.Core.Bool.{Bool, true, false}
 use native.Mathlib.Omega.{arith}
 use native.Mathlib.Decide.{decLt}
-use lib.Dec.{ltb}
+use lib.Dec.{eqb, ltb}
 use lib.ListN.{length}
 use borrow.Author.Tests.{lt-ltb, le-ltb, eq-eqb, ne-eqb}
 use Rattle.words.specs.Words.{pick}
@@ -22,7 +22,7 @@ use Rattle.allocation.specs.Known.{FullBelow, TextsFull, Full, Knows}
 use Rattle.allocation.proofs.Laws.{none-full, next-full, next-text-full}
 use Rattle.collector.specs.Collect.{Collection, collection, in-use-totals, collect-heap}
 use Rattle.reserving.specs.declared.Reserved.{Reserved}
-use Rattle.reserving.specs.Reserving.{room-end-held, reserved-words, Reserves, added, Sought, CountedTo, TextsCounted, Reckons}
+use Rattle.reserving.specs.Reserving.{room-end-held, reserved-words, Reserves, added, lowest-frame-for, lowest-text-for, sought, CountedTo, TextsCounted, Reckons}
 
 -- ---- add
 
@@ -42,12 +42,53 @@ module _ (p : List ℕ) (f n : ℕ) (k : Known) (F₀ F a b : ℕ) (e₀ : F₀ 
 
 -- ---- seek
 
-module _ (h : List ℕ) where
-  pub lowest-frame-full : (x : ℕ) → x ≡ next-frame h → FullBelow h x
-  lowest-frame-full x e = rw e (next-full h)
+module _ (h : List ℕ) (f low : ℕ) where
+  pub frame-given : f ≡ 0 → low ≡ lowest-frame-for h f low
+  unfolding lowest-frame-for
+  frame-given e = rw (eq-eqb f 0 e)
 
-  pub lowest-text-full : (x : ℕ) → x ≡ next-text h → TextsFull h x
-  lowest-text-full x e = rw e (next-text-full h)
+  pub frame-lowest : (f ≡ 0 → ⊥) → (x : ℕ) → x ≡ next-frame h → x ≡ lowest-frame-for h f low
+  unfolding lowest-frame-for
+  frame-lowest ne x e = rw (ne-eqb f 0 ne) e
+
+  pub text-given : f ≡ 0 → low ≡ lowest-text-for h f low
+  unfolding lowest-text-for
+  text-given e = rw (eq-eqb f 0 e)
+
+  pub text-lowest : (f ≡ 0 → ⊥) → (x : ℕ) → x ≡ next-text h → x ≡ lowest-text-for h f low
+  unfolding lowest-text-for
+  text-lowest ne x e = rw (ne-eqb f 0 ne) e
+
+pub seek-both : (h : List ℕ) (f n : ℕ) (r : Reserved) (low least : ℕ) → low ≡ lowest-frame-for h f (r .known .low) → least ≡ lowest-text-for h n (r .known .least)
+    → _≡_ {A = Reserved} (record { end = r .end; known = record { frames = r .known .frames; texts = r .known .texts; low = low; least = least } }) (sought h f n r)
+unfolding sought
+seek-both h f n r low least e d = rw (e, d)
+
+-- all below what was sought are in use, and nothing else that is known differs
+module _ (h : List ℕ) (f n : ℕ) where
+  frames-full : (low : ℕ) → FullBelow h low → FullBelow h (lowest-frame-for h f low)
+  unfolding lowest-frame-for
+  frames-full low a = go (eqb f 0)
+    where
+      go : (b : Bool) → FullBelow h (pick b low (next-frame h))
+      go true = a
+      go false = next-full h
+
+  texts-full : (low : ℕ) → TextsFull h low → TextsFull h (lowest-text-for h n low)
+  unfolding lowest-text-for
+  texts-full low a = go (eqb n 0)
+    where
+      go : (b : Bool) → TextsFull h (pick b low (next-text h))
+      go true = a
+      go false = next-text-full h
+
+  sought-knows : (r : Reserved) (i k : ℕ) → Knows h i k (r .known) → Knows h i k (sought h f n r .known)
+  unfolding sought
+  sought-knows r i k a = record {
+    frames = a .frames;
+    texts = a .texts;
+    full = record { frames = frames-full (r .known .low) (a .full .frames); texts = texts-full (r .known .least) (a .full .texts) };
+  }
 
 -- ---- count_frames
 
@@ -111,20 +152,18 @@ module _ (p h : List ℕ) (f n : ℕ) (k : Known) (known : Knows h 0 0 k) where
     pub reserve-full : Full h (a .known .low) (a .known .least)
     reserve-full = rw ea (reckoned .now .full)
 
-    module _ (r : Reserved) (s : Sought h a r) where
+    module _ (r : Reserved) (s : r ≡ sought h f n a) where
       pub reserve-reckons : Reckons h f n r
+      unfolding sought
       reserve-reckons =
           let q : Reckons h f n a = rw ea reckoned in
-          record {
-            now = record { frames = rw (s .frames) (q .now .frames); texts = rw (s .texts) (q .now .texts); full = s .full };
-            then = λ e. let z = q .then (sym (s .end) ∙ e) in record { frames = rw (s .frames) (z .frames); texts = rw (s .texts) (z .texts); full = s .full };
-          }
+          rw s (record { now = sought-knows h f n a 0 0 (q .now); then = λ e. sought-knows h f n a f n (q .then e) })
 
       pub reserve-room : a .end ≡ 0 → Reserves p h f n (r .end) h
-      unfolding reserved-words
+      unfolding reserved-words sought
       reserve-room z =
           let q = roomy (rw ea at z) in
-          record { words = rw (eq-eqb (room-end-held p h f n) 0 q); end = s .end ∙ z ∙ sym q }
+          record { words = rw (eq-eqb (room-end-held p h f n) 0 q); end = rw s (z ∙ sym q) }
 
 -- where all are counted
 module _ (p h : List ℕ) (f n low least : ℕ) (full : Full h low least) (x y : ℕ) (ex : x ≡ length (frames-in-use h)) (ey : y ≡ length (texts-in-use h)) where
@@ -172,7 +211,7 @@ module _ (p h : List ℕ) (f n : ℕ) (k : Known) (known : Knows h 0 0 k) (F : �
     pub count-full : Full h (b .known .low) (b .known .least)
     count-full = reserve-full p h f n _ knows-now b eb
 
-    module _ (r : Reserved) (s : Sought h b r) where
+    module _ (r : Reserved) (s : r ≡ sought h f n b) where
       pub count-room : Reserves p h f n (r .end) h
       count-room = reserve-room p h f n _ knows-now b eb r s z
 
@@ -203,12 +242,12 @@ module _ (p h : List ℕ) (f n : ℕ) (k : Known) (known : Knows h 0 0 k) (F : �
     pub collect-full : Full h′ (d .known .low) (d .known .least)
     collect-full = reserve-full p h′ f n _ knows-then d ed
 
-    module _ (r : Reserved) (s : Sought h′ d r) where
+    module _ (r : Reserved) (s : r ≡ sought h′ f n d) where
       pub collect-reserves : Reserves p h f n (r .end) h′
-      unfolding reserved-words
+      unfolding reserved-words sought
       collect-reserves = record {
         words = rw (ne-eqb (room-end-held p h f n) 0 (full-then nz)) (sym words-are);
-        end = s .end ∙ rw ed (count-end p h′ f n 0 0 (none-full h′) (m .frames) (m .texts) frames-are texts-are);
+        end = rw (s, ed) (count-end p h′ f n 0 0 (none-full h′) (m .frames) (m .texts) frames-are texts-are);
       }
 
       pub collect-reckons : Reckons h′ f n r

@@ -1,6 +1,6 @@
 -- Reserve over the words is that of the bounded machine on the state that they hold, and the header stays. Assumes nothing.
 use Prim.Native.Nat.{ℕ, _+_, _≤_}
-use mathlib.Core.Path.{_≡_, refl, _∙_, ap, sym}
+use mathlib.Core.Path.{_≡_, refl, _∙_, ap}
 use mathlib.Core.Bool.{Bool, true, false, _&&_}
 use mathlib.Core.List.{List}
 use native.Mathlib.Omega.{arith}
@@ -18,11 +18,10 @@ use Rattle.heap.specs.Words.{self-held, program-held}
 use Rattle.heap.specs.Held.{frames-in-use, texts-in-use}
 use Rattle.heap.specs.Closed.{Closed}
 use Rattle.collector.specs.Collect.{collect-heap}
-use Rattle.collector.specs.Collected.{Collected}
 use Rattle.collector.proofs.Means.{collect-meant}
 use Rattle.bounded.specs.Bounded.{Bounded, over-store, room-end, make-room, reserved, reserve, ready, collected}
 use Rattle.word_store.specs.Store.{Memories, word-store}
-use Rattle.word_store.specs.State.{store-held, state-held, HeldRead, HeldAfter}
+use Rattle.word_store.specs.State.{store-held, state-held}
 use Rattle.word_store.proofs.Updates.{KeepsHeader, keeps-all, keeps-pick, keeps-collect, held-read, held-after}
 use Rattle.reserving.specs.Reserving.{room-end-held, reserved-words, Reserves}
 

@@ -10,7 +10,8 @@ use Rattle.tables.specs.Fields.{frame-limit, text-limit}
 use Rattle.heap.specs.Held.{frames-in-use, texts-in-use}
 use Rattle.collector.specs.Collect.{collect-heap}
 use Rattle.allocation.specs.declared.Known.{Known}
-use Rattle.allocation.specs.Known.{Full, Knows}
+use Rattle.allocation.specs.Allocation.{next-frame, next-text}
+use Rattle.allocation.specs.Known.{Knows}
 use Rattle.reserving.specs.declared.Reserved.{Reserved}
 
 -- the end that f more frames and n more made texts meet: 36, 37, or 0 where they fit
@@ -36,12 +37,25 @@ added p f n k =
     (pick (ltb (text-limit p) (k .texts + n)) (record { end = 37; known = k })
     (record { end = 0; known = record { frames = k .frames + f; texts = k .texts + n; low = k .low; least = k .least } }))
 
--- nothing but the numbers below which all are in use differs
-pub record Sought (h : List ℕ) (r s : Reserved) : Type 0 where
-  pub end : s .end ≡ r .end
-  pub frames : s .known .frames ≡ r .known .frames
-  pub texts : s .known .texts ≡ r .known .texts
-  pub full : Full h (s .known .low) (s .known .least)
+-- the number below which every frame is in use: where f are to be made the lowest that is free, else the one given
+unfoldable pub lowest-frame-for : List ℕ → ℕ → ℕ → ℕ
+lowest-frame-for h f low = pick (eqb f 0) low (next-frame h)
+
+-- the same of made texts
+unfoldable pub lowest-text-for : List ℕ → ℕ → ℕ → ℕ
+lowest-text-for h n low = pick (eqb n 0) low (next-text h)
+
+-- both, in what is known
+unfoldable pub sought : List ℕ → ℕ → ℕ → Reserved → Reserved
+sought h f n r = record {
+  end = r .end;
+  known = record {
+    frames = r .known .frames;
+    texts = r .known .texts;
+    low = lowest-frame-for h f (r .known .low);
+    least = lowest-text-for h n (r .known .least);
+  };
+}
 
 -- how many frames are in use, all counted where f more fit below the limit
 pub record CountedTo (h : List ℕ) (limit f r : ℕ) : Type 0 where

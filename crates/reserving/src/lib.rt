@@ -4,7 +4,7 @@ use allocation::Known;
 ghost use mathlib.Core.Path.{_≡_};
 ghost use Rattle.heap.specs.Closed.{Closed};
 ghost use Rattle.allocation.specs.Known.{FullBelow, TextsFull, Full, Knows};
-ghost use Rattle.reserving.specs.Reserving.{added, Reserves, Sought, CountedTo, TextsCounted, Reckons};
+ghost use Rattle.reserving.specs.Reserving.{added, Reserves, lowest-frame-for, lowest-text-for, sought, CountedTo, TextsCounted, Reckons};
 
 // The end, 0 where there is room, and what is known then. Where there is room the f frames and t texts are counted in.
 pub struct Reserved {
@@ -36,7 +36,7 @@ fn add(p: &[u32], f: u32, t: u32, k: Known) -> Reserved
 // Where frames are to be made, the lowest that is free is looked for once.
 fn lowest_frame_for(h: &[u32], f: u32, low: u32) -> u32
     requires { ⌜ FullBelow (now h) low ⌝ }
-    ensures { λ r. ⌜ FullBelow (now (h .entry)) r ⌝ }
+    ensures { λ r. ⌜ r ≡ lowest-frame-for (now (h .entry)) f low ⌝ }
 {
     if f == 0 {
         return low;
@@ -47,7 +47,7 @@ fn lowest_frame_for(h: &[u32], f: u32, low: u32) -> u32
 // The same of made texts.
 fn lowest_text_for(h: &[u32], t: u32, low: u32) -> u32
     requires { ⌜ TextsFull (now h) low ⌝ }
-    ensures { λ r. ⌜ TextsFull (now (h .entry)) r ⌝ }
+    ensures { λ r. ⌜ r ≡ lowest-text-for (now (h .entry)) t low ⌝ }
 {
     if t == 0 {
         return low;
@@ -58,7 +58,7 @@ fn lowest_text_for(h: &[u32], t: u32, low: u32) -> u32
 // Both.
 fn seek(h: &[u32], f: u32, t: u32, r: Reserved) -> Reserved
     requires { ⌜ Full (now h) (r .known .low) (r .known .least) ⌝ }
-    ensures { λ s. ⌜ Sought (now (h .entry)) r s ⌝ }
+    ensures { λ s. ⌜ s ≡ sought (now (h .entry)) f t r ⌝ }
 {
     let low = lowest_frame_for(h, f, r.known.low);
     let least = lowest_text_for(h, t, r.known.least);

@@ -1,5 +1,6 @@
-use Rattle.operands.proofs.Numbers.{number-tested, number-quick}
+use Rattle.operands.proofs.Numbers.{quick-says, number-tested}
 use borrow.Author.Needs.{needs}
+use Rattle.words.specs.Words.{word}
 use Rattle.operands.proofs.operand_number.Statement.{statement}
 use Rattle.operands.proofs.operand_number.Tie as tie
 
@@ -7,7 +8,10 @@ returns : tie.Need-returns
 returns c = search number-tested
 
 returns-2 : tie.Need-returns-2
-returns-2 c = search number-quick
+unfolding word
+returns-2 c =
+    let k = c .before .before in
+    quick-says _ _ _ (k .shared-slice-known2 .given) (k .before .shared-slice-known .given) _ (c .before .quick .ensures) (c .if1 .left)
 
 pub operand-number-spec : {M : Type 1} → statement M
 operand-number-spec =

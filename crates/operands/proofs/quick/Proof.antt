@@ -1,19 +1,19 @@
 use Prim.Native.Nat.{_+_, _*_}
 use native.Mathlib.Omega.{arith}
 use Rattle.words.specs.Words.{word}
-use Rattle.operands.proofs.Numbers.{quick-six, quick-literal, quick-path, quick-code, quick-other}
+use Rattle.operands.proofs.Numbers.{quick-program, quick-heap, quick-past, quick-literal, quick-outside, quick-path, quick-code, quick-other}
 use borrow.Author.Needs.{needs}
 use Rattle.operands.proofs.quick.Statement.{statement}
 use Rattle.operands.proofs.quick.Tie as tie
 
 returns : tie.Need-returns
-returns c = search quick-six
+returns c = search quick-program
 
 returns-2 : tie.Need-returns-2
-returns-2 c = search quick-six
+returns-2 c = search quick-heap
 
 returns-3 : tie.Need-returns-3
-returns-3 c = search quick-six
+returns-3 c = search quick-past
 
 cast-result : tie.Need-cast-result
 cast-result c = omega (arith, c .before .shared-slice-known4 .given (7104 + 5 * c .before .before .before .wide .result + 1))
@@ -26,7 +26,7 @@ add-result c = omega (arith, c .before .shared-slice-known4 .given (7104 + 5 * c
 
 returns-4 : tie.Need-returns-4
 unfolding word
-returns-4 c = quick-literal _ _ _ _ (c .before .before .before .wide .ensures) (c .if4 .taken) (c .before .shared-slice-known4 .given (7104 + 5 * c .before .before .before .wide .result + 1))
+returns-4 c = search quick-literal
 
 add-if6 : tie.Need-add-if6
 add-if6 c =
@@ -34,7 +34,8 @@ add-if6 c =
     omega (arith, c .before .shared-slice-known5 .given (at + 1), c .before .shared-slice-known5 .given (at + 2))
 
 returns-5 : tie.Need-returns-5
-returns-5 c = search quick-six
+unfolding word
+returns-5 c = search quick-outside
 
 returns-6 : tie.Need-returns-6
 unfolding word
@@ -51,7 +52,7 @@ add-result-2 c = omega (arith, c .before .before .before .shared-slice-known4 .g
 
 returns-7 : tie.Need-returns-7
 unfolding word
-returns-7 c = search (quick-code, c .before .before .before .shared-slice-known4 .given (7104 + 5 * c .before .before .before .before .before .wide .result + 1))
+returns-7 c = search quick-code
 
 returns-8 : tie.Need-returns-8
 unfolding word
