@@ -1,5 +1,5 @@
 // An instruction that makes no frame and no text, and `:=` of a join after reserve, in one go: each operand is read once and each path walked once, and an end that is met leaves the words as they are.
-// What became of it is a number: 0 it is made, 31 to 35 the end that it meets, 255 it was not looked at, as it makes something or shows.
+// What became of it is a number: 0 it is made, 31 to 35 the end that it meets, 255 it is left, as it makes something or shows.
 use arith::Arithmetic;
 use framed::Text;
 use framed::Value;
@@ -208,7 +208,7 @@ fn branch(p: &[u32], l: &[u8], h: &mut [u32], t: &[u8], i: u32, a: u32, c: u32, 
     jump(p, l, h, c, d)
 }
 
-// Instruction i, where it makes nothing and shows nothing.
+// Instruction i, where it makes nothing and shows nothing; else it is left.
 pub fn direct<'a>(p: &[u32], l: &'a [u8], h: &mut [u32], t: &'a [u8], i: u32) -> u32
     requires { ⌜ CanDo (now p) (now l) (now h) (now t) i ⌝ }
     ensures { λ r. ⌜ Does (now (p .entry)) (now (l .entry)) (now (h .entry)) (now (t .entry)) i r (now (h .exit)) ⌝ }
