@@ -198,10 +198,10 @@ fn branch(p: &[u32], l: &[u8], h: &mut [u32], t: &[u8], i: u32, a: u32, c: u32, 
     requires { ⌜ CanDoEntry (now p) (now l) (now h) (now t) i (InstructionEntry.Ifeq a c d) ⌝ }
     ensures { λ r. ⌜ Does (now (p .entry)) (now (l .entry)) (now (h .entry)) (now (t .entry)) i r (now (h .exit)) ⌝ }
 {
-    let Fetched::Found(v) = operands::operand(p, h, a) else {
+    let Fetched::Found(test) = operands::operand(p, h, a) else {
         return 31;
     };
-    if texts::truth(v) {
+    if texts::truth(test) {
         commit::go_on(p, h, i);
         return 0;
     }
@@ -254,14 +254,14 @@ fn put_join(
 {
     let own = tables::instruction_kind(p, i) == 0;
     let j = tables::instruction_a(p, i);
-    let n = tables::instruction_b(p, i);
-    if n == 0 {
+    let names = tables::instruction_b(p, i);
+    if names == 0 {
         let u = producing::join(p, l, h, t, v, w, least);
         commit::set_root(h, own, u);
         commit::go_on(p, h, i);
         return 0;
     }
-    let PutTarget::At(f, name) = puts::put_target(p, h, commit::root(h, own), j, n) else {
+    let PutTarget::At(f, name) = puts::put_target(p, h, commit::root(h, own), j, names) else {
         return 31;
     };
     let full = puts::slot_end(h, f, name);
