@@ -59,7 +59,7 @@ same-length-7 c = search needs
 
 -- src/lib.rt:163:1
 returns-3 : tie.Need-returns-3
-returns-3 c = (search (direct-ended, words-fit {h = c .before .before .set-end-mark .last .0} (c .slice-known8 .given)), search ended-knows-still)
+returns-3 c = (direct-ended _ _ _ _ _ _ _ (c .before .before .before .before .before .before .before .before .before .before .before .before .before .before .before .before .pre .0) _ (c .before .before .before .before .before .before .before .before .before .before .before .before .before .before .before .before .pre .1) _ _ (c .before .before .before .before .before .before .before .before .direct .ensures) (c .before .before .before .before .before .if1 .left) (c .before .before .before .before .if2 .left) _ (c .before .before .set-end-mark .ensures) (words-fit (c .slice-known8 .given)), ended-knows-still _ _ _ _ _ _ _ (c .before .before .before .before .before .before .before .before .before .before .before .before .before .before .before .before .pre .0) _ (c .before .before .before .before .before .before .before .before .before .before .before .before .before .before .before .before .pre .1) _ _ (c .before .before .before .before .before .before .before .before .direct .ensures) (c .before .before .before .before .before .if1 .left) (c .before .before .before .before .if2 .left) _ (c .before .before .set-end-mark .ensures))
 
 pub attempt-spec : {M : Type 1} → statement M
 attempt-spec =
