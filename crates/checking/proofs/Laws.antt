@@ -4,22 +4,22 @@ use mathlib.Core.Path.{_≡_, refl, _∙_, sym}
 use mathlib.Core.List.{List, [], _∷_}
 use mathlib.Core.Bool.{Bool, true, false}
 use native.Mathlib.Omega.{arith}
-use native.Mathlib.Decide.{decLt}
+use native.Mathlib.Decide.{decLt, ℕ-discrete}
 use lib.Dec.{ltb}
 use borrow.Author.Tests.{ne-eqb, le-ltb}
 use types.Run.{OneOf, miss}
 use denote.Enum.Declared.{tagOf}
 use Rattle.words.specs.Words.{pick}
 use Rattle.framed.specs.declared.Value.{Value}
-use Rattle.framed.specs.Tree.{Base, Expression, Instruction}
+use Rattle.framed.specs.Tree.{Base, Expression}
 use Rattle.framed.specs.Paths.{Path}
 use Rattle.framed.specs.Machine.{Result, _>>=_, defined}
 use Rattle.bounded.specs.Operations.{operated}
 use Rattle.bounded.specs.Check.{end-of, first-end, operation-result, check-expression, check}
 use Rattle.tables.specs.declared.ExpressionEntry.{ExpressionEntry}
 use Rattle.tables.specs.declared.InstructionEntry.{InstructionEntry}
-use Rattle.tables.specs.Entries.{expression-of, expression-at, instruction-at}
-use Rattle.tables.specs.Fields.{link, slot-after, expression-kind, expression-a, expression-b}
+use Rattle.tables.specs.Entries.{expression-of, expression-at, instruction-of, instruction-at}
+use Rattle.tables.specs.Fields.{link, expressions, instructions, instruction-kind, instruction-a, instruction-b, instruction-c, slot-after, expression-kind, expression-a, expression-b}
 use Rattle.tables.proofs.ExpressionEntry.{the-type}
 use Rattle.program_entries.specs.Form as form
 use Rattle.heap.specs.Words.{self-held, program-held}
@@ -32,15 +32,15 @@ use Rattle.trees.specs.Trees.{expression-tree, base-tree, path-list}
 use Rattle.trees.specs.Trees as trees
 use Rattle.trees.specs.Held.{base-held, expression-held, instruction-held, held}
 use Rattle.trees.specs.Held as trees-held
-use Rattle.trees.proofs.Held.{one-level-held, assign-self-held, assign-program-held, show-held, jump-held, ifeq-held}
+use Rattle.trees.proofs.Held.{one-level-held, assign-self-held, assign-program-held, show-held}
 use Rattle.operators.specs.Operators.{operator-of, arithmetic-of}
 use Rattle.operands.specs.Operands.{operand-value}
 use Rattle.operands.proofs.Literals.{same-literals}
-use Rattle.operand_checks.specs.OperandChecks.{put-end, jump-end, ifeq-ends}
-use Rattle.operand_checks.proofs.Laws.{put-self, put-program, jump-any}
+use Rattle.operand_checks.specs.OperandChecks.{put-end}
+use Rattle.operand_checks.proofs.Laws.{put-self, put-program}
 use Rattle.places.specs.Places.{expression-measure, slots-measure}
 use Rattle.places.proofs.Laws as places
-use Rattle.checking.specs.Checking.{ChecksExpression, ChecksSlots, ChecksInstruction, operation-end, expression-end, slots-end, assign-end, base-in, single-end}
+use Rattle.checking.specs.Checking.{Checks, ChecksExpression, ChecksSlots, ChecksInstruction, operation-end, expression-end, slots-end, assign-end, base-in, single-end}
 
 -- ---- The operator of a kind
 
@@ -320,43 +320,58 @@ module _ (p l h t : List ℕ) (v : Value) (j n x b : ℕ) (eb : b ≡ expression
 
 -- ---- check
 
-module _ (p l h t : List ℕ) (i : ℕ) (a : ChecksInstruction p l h t i) (e : InstructionEntry) (at : e ≡ instruction-at p i) where
-  forms : form.InstructionForm p i
-  forms = a .memories .program .entries .instruction i (a .there)
-
+module _ (p l h t : List ℕ) (i : ℕ) (m : Checks p l h t) (there : i < instructions p) where
   -- the end that `bounded` names
-  abbrev checked : Instruction Path → ℕ
-  checked g = check (trees-held.program-held p l) (self-held h) (program-held h) (heap-held h t) g
+  abbrev checked : ℕ
+  checked = check (trees-held.program-held p l) (self-held h) (program-held h) (heap-held h t) (instruction-held p i)
 
-  module _ (j n x : ℕ) where
-    pub self-expression : e ≡ InstructionEntry.AssignSelf j n x → ChecksExpression p l h t x
-    self-expression q = record { memories = a .memories; there = forms .self-there j n x (sym at ∙ q) }
-
-    pub program-expression : e ≡ InstructionEntry.AssignProgram j n x → ChecksExpression p l h t x
-    program-expression q = record { memories = a .memories; there = forms .program-there j n x (sym at ∙ q) }
-
-    pub check-self : (v : Value) (r : ℕ) → e ≡ InstructionEntry.AssignSelf j n x → v ≡ self-held h → r ≡ assign-end p l h t v j n x → r ≡ checked (instruction-held p i)
+  -- by its entry
+  module _ (j n x r : ℕ) where
+    pub check-self : InstructionEntry.AssignSelf j n x ≡ instruction-at p i → r ≡ assign-end p l h t (self-held h) j n x → r ≡ checked
     unfolding check assign-end put-end expression-end heap-held
-    check-self v r q ev er =
-        rw (er, ev, assign-self-held p l (a .memories .program) i (a .there) j n x (sym at ∙ q), same-literals p l, put-self (frames-held h) (self-held h) (program-held h) (path-list p n j))
+    check-self at er =
+        rw (er, assign-self-held p l (m .program) i there j n x (sym at), same-literals p l, put-self (frames-held h) (self-held h) (program-held h) (path-list p n j))
 
-    pub check-program : (v : Value) (r : ℕ) → e ≡ InstructionEntry.AssignProgram j n x → v ≡ program-held h → r ≡ assign-end p l h t v j n x → r ≡ checked (instruction-held p i)
+    pub check-program : InstructionEntry.AssignProgram j n x ≡ instruction-at p i → r ≡ assign-end p l h t (program-held h) j n x → r ≡ checked
     unfolding check assign-end put-end expression-end heap-held
-    check-program v r q ev er =
-        rw (er, ev, assign-program-held p l (a .memories .program) i (a .there) j n x (sym at ∙ q), same-literals p l, put-program (frames-held h) (self-held h) (program-held h) (path-list p n j))
+    check-program at er =
+        rw (er, assign-program-held p l (m .program) i there j n x (sym at), same-literals p l, put-program (frames-held h) (self-held h) (program-held h) (path-list p n j))
 
-  pub check-show : (x r : ℕ) → e ≡ InstructionEntry.Show x → r ≡ end-of (operand-value p h x) → r ≡ checked (instruction-held p i)
+  check-show : (x r : ℕ) → InstructionEntry.Show x ≡ instruction-at p i → r ≡ end-of (operand-value p h x) → r ≡ checked
   unfolding check operand-value heap-held
-  check-show x r q er = rw (er, show-held p l (a .memories .program) i (a .there) x (sym at ∙ q))
+  check-show x r at er = rw (er, show-held p l (m .program) i there x (sym at))
 
-  pub check-jump : (b c r : ℕ) → e ≡ InstructionEntry.Jump b c → r ≡ jump-end p h b c → r ≡ checked (instruction-held p i)
-  unfolding check heap-held
-  check-jump b c r q er = rw (er, jump-held p l (a .memories .program) i (a .there) b c (sym at ∙ q)) (jump-any (trees-held.program-held p l .codes) p h b c)
+-- by its kind
+module _ (p l h t : List ℕ) (i : ℕ) (c : ChecksInstruction p l h t i) (k : ℕ) (ek : k ≡ instruction-kind p i) (a : ℕ) (ea : a ≡ instruction-a p i) where
+  entry-show : k ≡ 2 → InstructionEntry.Show a ≡ instruction-at p i
+  unfolding instruction-at instruction-of
+  entry-show z = rw (ea, ← ek, z)
 
-  pub check-ifeq : (b c d r : ℕ) → e ≡ InstructionEntry.Ifeq b c d → r ≡ ifeq-ends p h b c d → r ≡ checked (instruction-held p i)
-  unfolding check heap-held ifeq-ends operand-value
-  check-ifeq b c d r q er =
-      rw (er, ifeq-held p l (a .memories .program) i (a .there) b c d (sym at ∙ q), jump-any (trees-held.program-held p l .codes) p h c d)
+  pub kind-shows : 2 ≤ k → (r : ℕ) → r ≡ end-of (operand-value p h a) → r ≡ checked p l h t i (c .memories) (c .there)
+  kind-shows ge r er = check-show p l h t i (c .memories) (c .there) a r (entry-show (let q = c .form .kind in omega arith)) er
 
-  pub check-bad : e ≡ InstructionEntry.Bad → 0 ≡ checked (instruction-held p i)
-  check-bad q = absurd (forms .formed (sym at ∙ q))
+  module _ (lt : k < 2) (n : ℕ) (en : n ≡ instruction-b p i) (x : ℕ) (ex : x ≡ instruction-c p i) where
+    entry-self : k ≡ 0 → InstructionEntry.AssignSelf a n x ≡ instruction-at p i
+    unfolding instruction-at instruction-of
+    entry-self z = rw (ea, en, ex, ← ek, z)
+
+    entry-program : k ≡ 1 → InstructionEntry.AssignProgram a n x ≡ instruction-at p i
+    unfolding instruction-at instruction-of
+    entry-program z = rw (ea, en, ex, ← ek, z)
+
+    forms : form.InstructionForm p i
+    forms = c .memories .program .entries .instruction i (c .there)
+
+    pub kind-expression : ChecksExpression p l h t x
+    kind-expression = record { memories = c .memories; there = go (ℕ-discrete k 0) }
+      where
+        go : Dec (k ≡ 0) → x < expressions p
+        go (yes z) = forms .self-there a n x (sym (entry-self z))
+        go (no nz) = forms .program-there a n x (sym (entry-program (omega arith)))
+
+    module _ (v : Value) (r : ℕ) (er : r ≡ assign-end p l h t v a n x) where
+      pub kind-self : k ≡ 0 → v ≡ self-held h → r ≡ checked p l h t i (c .memories) (c .there)
+      kind-self z ev = check-self p l h t i (c .memories) (c .there) a n x r (entry-self z) (rw ev at er)
+
+      pub kind-program : (k ≡ 0 → ⊥) → v ≡ program-held h → r ≡ checked p l h t i (c .memories) (c .there)
+      kind-program nz ev = check-program p l h t i (c .memories) (c .there) a n x r (entry-program (omega arith)) (rw ev at er)

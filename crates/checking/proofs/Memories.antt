@@ -8,7 +8,7 @@ use Rattle.heap.specs.Words.{text-length}
 use Rattle.state_form.proofs.Facts.{well-formed-sized}
 use Rattle.program_form.specs.WellFormed as program
 use Rattle.wellformed.specs.WellFormed.{WellFormed}
-use Rattle.checking.specs.Checking.{Checks, ChecksInstruction}
+use Rattle.checking.specs.Checking.{Checks, AssignsOrShows, ChecksInstruction}
 
 literal-inside : (p l : List ℕ) → program.WellFormed p l → (k : ℕ) → k < literals p → 64 * k + literal-length p k ≤ length l
 literal-inside p l w k lt =
@@ -32,5 +32,5 @@ module _ (p h l t : List ℕ) (w : WellFormed p h l t) where
         readable = record { literals = record { inside = literal-inside p l (w .program) }; made = record { inside = text-inside } };
       }
 
-  pub instruction-checks : (i : ℕ) → i < instructions p → ChecksInstruction p l h t i
-  instruction-checks i lt = record { memories = well-formed-checks; there = lt }
+  pub instruction-checks : (i : ℕ) → i < instructions p → AssignsOrShows p i → ChecksInstruction p l h t i
+  instruction-checks i lt f = record { memories = well-formed-checks; there = lt; form = f }

@@ -1,11 +1,11 @@
--- Document 01, "The endless machine", step 2, and "What stops a call": the end that an expression or an instruction meets first, over program words p, literal bytes l,
+-- Document 01, "The endless machine", step 2, and "What stops a call": the end that an expression, or an instruction that assigns or shows, meets first, over program words p, literal bytes l,
 -- heap words h and text bytes t. What it means is `bounded`'s check. Assumes nothing.
 use Prim.Native.Nat.{ℕ, _<_}
 use mathlib.Core.List.{List}
 use Rattle.framed.specs.declared.Value.{Value}
 use Rattle.bounded.specs.Check.{end-of, first-end, operation-result, check-expression, check-slots}
 use Rattle.tables.specs.declared.ExpressionEntry.{ExpressionEntry}
-use Rattle.tables.specs.Fields.{expressions, instructions}
+use Rattle.tables.specs.Fields.{expressions, instructions, instruction-kind}
 use Rattle.program_form.specs.WellFormed.{WellFormed}
 use Rattle.program_form.specs.Sound.{SlotPlace}
 use Rattle.heap.specs.Words.{self-held, program-held}
@@ -30,9 +30,14 @@ pub record ChecksSlots (p l h t : List ℕ) (z : ℕ) : Type 0 where
   pub memories : Checks p l h t
   pub place : SlotPlace p z
 
+-- instruction i is `:=` or `show`: kinds 0 to 2
+pub record AssignsOrShows (p : List ℕ) (i : ℕ) : Type 0 where
+  pub kind : instruction-kind p i < 3
+
 pub record ChecksInstruction (p l h t : List ℕ) (i : ℕ) : Type 0 where
   pub memories : Checks p l h t
   pub there : i < instructions p
+  pub form : AssignsOrShows p i
 
 module _ (p l h t : List ℕ) where
   -- of the operator of kind o between the expressions a and b

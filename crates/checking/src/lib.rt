@@ -1,8 +1,7 @@
-// Which end of 31 to 35 the rule of an instruction meets first, 0 where it meets none. It reads only, and looks at the ends in the rule's order.
+// Which end of 31 to 35 the rule of an assignment or of a show meets first, 0 where it meets none. It reads only, and looks at the ends in the rule's order.
 use framed::Value;
 use paths::Fetched;
 use tables::ExpressionEntry;
-use tables::InstructionEntry;
 ghost use mathlib.Core.Path.{_≡_};
 ghost use Rattle.bounded.specs.Check.{check};
 ghost use Rattle.heap.specs.Words.{self-held, program-held as program-value};
@@ -119,29 +118,20 @@ fn check_assign<'a>(
     operand_checks::check_put(p, h, root, j, n)
 }
 
+// Instruction i, which assigns or shows: kinds 0 and 1 assign from self and from the program.
 pub fn check<'a>(p: &[u32], l: &'a [u8], h: &[u32], t: &'a [u8], i: u32) -> u32
     requires { ⌜ ChecksInstruction (now p) (now l) (now h) (now t) i ⌝ }
     ensures { λ r. ⌜ r ≡ check (program-held (now (p .entry)) (now (l .entry))) (self-held (now (h .entry))) (program-value (now (h .entry))) (heap-held (now (h .entry)) (now (t .entry))) (instruction-held (now (p .entry)) i) ⌝ }
 {
-    let e = tables::instruction_at(p, i);
-    match e {
-        InstructionEntry::AssignSelf(j, n, x) => {
-            return check_assign(p, l, h, t, heap::self_value(h), j, n, x);
-        }
-        InstructionEntry::AssignProgram(j, n, x) => {
-            return check_assign(p, l, h, t, heap::program_value(h), j, n, x);
-        }
-        InstructionEntry::Show(a) => {
-            return operand_checks::check_operand(p, h, a);
-        }
-        InstructionEntry::Jump(a, b) => {
-            return operand_checks::check_jump(p, h, a, b);
-        }
-        InstructionEntry::Ifeq(a, b, c) => {
-            return operand_checks::check_ifeq(p, h, a, b, c);
-        }
-        InstructionEntry::Bad => {
-            return 0;
-        }
+    let kind = tables::instruction_kind(p, i);
+    let a = tables::instruction_a(p, i);
+    if 2 <= kind {
+        return operand_checks::check_operand(p, h, a);
     }
+    let n = tables::instruction_b(p, i);
+    let x = tables::instruction_c(p, i);
+    if kind == 0 {
+        return check_assign(p, l, h, t, heap::self_value(h), a, n, x);
+    }
+    check_assign(p, l, h, t, heap::program_value(h), a, n, x)
 }

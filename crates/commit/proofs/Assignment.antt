@@ -1,6 +1,6 @@
 -- `:=` from self or from the program: its entry by its kind, and what that says. Assumes nothing.
 use Prim.Native.Nat.{ℕ, zero, suc, _≤_, _<_}
-use mathlib.Core.Path.{_≡_, sym, subst}
+use mathlib.Core.Path.{_≡_, sym}
 use mathlib.Core.Bool.{Bool, true, false}
 use mathlib.Core.List.{List}
 use native.Mathlib.Omega.{arith}
@@ -25,36 +25,40 @@ assignment-entry p i zero ek lt = rw (← ek)
 assignment-entry p i (suc zero) ek lt = rw (← ek)
 assignment-entry p i (suc (suc k)) ek lt = absurd (omega arith)
 
--- and of no other
-abbrev Other : InstructionEntry → Type 0
-Other (InstructionEntry.AssignSelf j n x) = ⊥
-Other (InstructionEntry.AssignProgram j n x) = ⊥
-Other (InstructionEntry.Show a) = Unit
-Other (InstructionEntry.Jump a c) = Unit
-Other (InstructionEntry.Ifeq a c d) = Unit
-Other InstructionEntry.Bad = Unit
+-- the kind of an entry, 5 where it has no form
+abbrev pub kind-of : InstructionEntry → ℕ
+kind-of (InstructionEntry.AssignSelf j n x) = 0
+kind-of (InstructionEntry.AssignProgram j n x) = 1
+kind-of (InstructionEntry.Show a) = 2
+kind-of (InstructionEntry.Jump a c) = 3
+kind-of (InstructionEntry.Ifeq a c d) = 4
+kind-of InstructionEntry.Bad = 5
 
-other-kind : (k a b c : ℕ) → 2 ≤ k → Other (instruction-of k a b c)
+least : (m k a b c : ℕ) → m ≤ 5 → m ≤ k → m ≤ kind-of (instruction-of k a b c)
 unfolding instruction-of
-other-kind zero a b c le = absurd (omega arith)
-other-kind (suc zero) a b c le = absurd (omega arith)
-other-kind (suc (suc zero)) a b c le = tt
-other-kind (suc (suc (suc zero))) a b c le = tt
-other-kind (suc (suc (suc (suc zero)))) a b c le = tt
-other-kind (suc (suc (suc (suc (suc k))))) a b c le = high (suc (suc (suc (suc (suc k))))) (omega arith)
+least m zero a b c few le = le
+least m (suc zero) a b c few le = le
+least m (suc (suc zero)) a b c few le = le
+least m (suc (suc (suc zero))) a b c few le = le
+least m (suc (suc (suc (suc zero)))) a b c few le = le
+least m (suc (suc (suc (suc (suc k))))) a b c few le = high (suc (suc (suc (suc (suc k))))) (omega arith)
   where
-    high : (n : ℕ) → 5 ≤ n → Other (instruction-of n a b c)
-    high n ge = rw (ne-eqb n 0 (λ q. omega arith), ne-eqb n 1 (λ q. omega arith), ne-eqb n 2 (λ q. omega arith), ne-eqb n 3 (λ q. omega arith), ne-eqb n 4 (λ q. omega arith)) tt
+    high : (n : ℕ) → 5 ≤ n → m ≤ kind-of (instruction-of n a b c)
+    high n ge = rw (ne-eqb n 0 (λ q. omega arith), ne-eqb n 1 (λ q. omega arith), ne-eqb n 2 (λ q. omega arith), ne-eqb n 3 (λ q. omega arith), ne-eqb n 4 (λ q. omega arith)) few
 
-not-other : (own : Bool) (j n x : ℕ) → Other (assignment own j n x) → ⊥
+pub kind-least : (p : List ℕ) (i m : ℕ) → m ≤ 5 → m ≤ instruction-kind p i → m ≤ kind-of (instruction-at p i)
+unfolding instruction-at
+kind-least p i m few le = least m (instruction-kind p i) (instruction-a p i) (instruction-b p i) (instruction-c p i) few le
+
+-- an assignment has no other kind
+assignment-kind : (own : Bool) (j n x : ℕ) → kind-of (assignment own j n x) ≤ 1
 unfolding assignment
-not-other true j n x o = o
-not-other false j n x o = o
+assignment-kind true j n x = omega arith
+assignment-kind false j n x = omega arith
 
 pub no-assignment : (p : List ℕ) (i k : ℕ) → k ≡ instruction-kind p i → 2 ≤ k → (own : Bool) (j n x : ℕ) → assignment own j n x ≡ instruction-at p i → ⊥
-unfolding instruction-at
 no-assignment p i k ek ge own j n x at =
-    not-other own j n x (subst Other (sym at) (other-kind (instruction-kind p i) (instruction-a p i) (instruction-b p i) (instruction-c p i) (rw ek at ge)))
+    let a = assignment-kind own j n x in let b : 2 ≤ kind-of (assignment own j n x) = rw at (kind-least p i 2 (omega arith) (omega arith)) in omega arith
 
 -- ---- What it says
 

@@ -1,4 +1,4 @@
--- What each way through the functions gives. Assumes nothing.
+-- What each way through the functions gives, and what a jump and an `ifeq` give, which the crate `direct` makes. Assumes nothing.
 use Prim.Native.Nat.{ℕ, zero, suc, _≤_, _<_}
 use mathlib.Core.Path.{_≡_, refl, _∙_, ap, sym}
 use mathlib.Core.List.{List, [], _∷_}
@@ -17,7 +17,7 @@ use Rattle.framed.specs.Paths.{Path, from-self, from-program}
 use Rattle.framed.specs.Machine as M
 use Rattle.framed.specs.Machine.{Result, gives, ends, defined, base-value, code-of, right-side}
 use Rattle.tables.specs.declared.InstructionEntry.{InstructionEntry}
-use Rattle.tables.specs.Entries.{instruction-at}
+use Rattle.tables.specs.Entries.{instruction-of, instruction-at}
 use Rattle.tables.specs.Fields.{codes, code-first, instructions, instruction-kind, instruction-a, instruction-b, instruction-c, instruction-after}
 use Rattle.program_entries.specs.Form.{InstructionForm}
 use Rattle.trees.specs.Trees.{path-list}
@@ -39,12 +39,12 @@ use Rattle.bounded.specs.Bounded.{Bounded, Produced, evaluate, value-given, ove
 use Rattle.word_store.specs.Store.{Memories, word-store}
 use Rattle.word_store.specs.State.{store-held, state-held, with-self, with-program, with-remaining}
 use Rattle.word_store.proofs.Updates.{held-after}
-use Rattle.producing.specs.Producing.{HeaderKept}
+use Rattle.producing.specs.Producing.{HeaderKept, Writable}
 use Rattle.evaluation.specs.Evaluation.{strings, CanEvaluate, Evaluates}
 use Rattle.evaluation.proofs.Stores.{frames-are}
 use Rattle.evaluation.proofs.Fits.{operand-fits}
 use Rattle.commit.specs.Commit.{put-at, put-along, root-of, set-root, path-of, state-of, Assigns, first-place, code-place, place-to, jump-place, CanJump, Jumps, assignment, position-by, position-after, CanCommit, Commits}
-use Rattle.commit.proofs.Assignment.{assignment-entry, no-assignment, assignment-tree, assignment-there, assignment-place}
+use Rattle.commit.proofs.Assignment.{assignment-entry, assignment-tree, assignment-there, assignment-place}
 use Rattle.commit.proofs.Places.{code-at, place-small, after-small}
 use Rattle.commit.proofs.Headers.{kept-state, kept-stays, stays-both, self-stays, program-stays, position-stays, self-size, program-size, position-size, put-store, put-header, put-size}
 
@@ -265,12 +265,15 @@ module _ (p l h : List ℕ) (a c : ℕ) (can : CanJump p l h a c) where
 
 -- ---- Instructions
 
-module _ (p l h t : List ℕ) (i : ℕ) (can : CanCommit p l h t i) where
+module _ (p l h t : List ℕ) (i : ℕ) (w : Writable p l h t) (there : i < instructions p) where
   size-is : length h ≡ 16384
-  size-is = can .writable .sized .size
+  size-is = w .sized .size
 
   next-small : instruction-after p i ≤ instructions p
-  next-small = after-small p l (can .writable .program) i (can .there)
+  next-small = after-small p l (w .program) i there
+
+  form : InstructionForm p i
+  form = w .program .entries .instruction i there
 
   -- nothing but the position
   onward : (h₂ : List ℕ) → h₂ ≡ set-position h (instruction-after p i) →
@@ -282,97 +285,86 @@ module _ (p l h t : List ℕ) (i : ℕ) (can : CanCommit p l h t i) where
     position = set-position-position h size-is (instruction-after p i) ∙ z;
     header = position-stays p h size-is (instruction-after p i) next-small;
     size = position-size p h size-is (instruction-after p i);
-    text-size = can .writable .text-size;
+    text-size = w .text-size;
   })
 
   -- `:=`
   module _ (own : Bool) (j n x : ℕ) (at : assignment own j n x ≡ instruction-at p i) where
-    tree : trees.instruction-held p i ≡ Instruction.assign (path-of own (path-list p n j)) (trees.expression-held p x)
-    tree = assignment-tree p l (can .writable .program) i (can .there) own j n x at
-
-    can-assign : CanEvaluate p l h t x
-    unfolding right-side
-    can-assign = record {
-      writable = can .writable;
-      there = assignment-there p l (can .writable .program) i (can .there) own j n x at;
-      room = rw tree at (can .room);
-    }
-
     pub commit-assigns : (h₁ t₁ h₂ : List ℕ) → Assigns p l h t (path-of own (path-list p n j)) x h₁ t₁ → h₂ ≡ set-position h₁ (instruction-after p i) → Commits p l h t i h₂ t₁
     unfolding commit state-held
     commit-assigns h₁ t₁ h₂ a eh = rw eh (record {
-      state = held-after (remaining p) h₁ t₁ (a .size) .position (instruction-after p i) ∙ a .state (remaining p (instruction-after p i)) ∙ rw tree;
+      state = held-after (remaining p) h₁ t₁ (a .size) .position (instruction-after p i) ∙ a .state (remaining p (instruction-after p i)) ∙ rw (assignment-tree p l (w .program) i there own j n x at);
       position = set-position-position h₁ (a .size) (instruction-after p i) ∙ assignment-place p h i own j n x at;
       header = stays-both p (a .header) (position-stays p h₁ (a .size) (instruction-after p i) next-small);
       size = position-size p h₁ (a .size) (instruction-after p i);
       text-size = a .text-size;
     })
 
-  module _ (k : ℕ) (ek : k ≡ instruction-kind p i) (lt : k < 2) where
+  -- `show`
+  commit-show : (a : ℕ) → InstructionEntry.Show a ≡ instruction-at p i → (h₂ : List ℕ) → h₂ ≡ set-position h (instruction-after p i) → Commits p l h t i h₂ t
+  unfolding commit state-held position-after position-by
+  commit-show a at h₂ eh = onward h₂ eh (rw (show-held p l (w .program) i there a (sym at))) (rw (← at))
+
+  -- `jump`, `ifeq`
+  module _ (a c : ℕ) (at : InstructionEntry.Jump a c ≡ instruction-at p i) where
+    pub commit-can-jump : CanJump p l h a c
+    commit-can-jump = record { program = w .program; size = size-is; first = form .jump-to a c (sym at) .there; second = form .jump-with a c (sym at) .there }
+
+    pub commit-jumps : (h₂ : List ℕ) → Jumps p l h a c h₂ → Commits p l h t i h₂ t
+    unfolding commit state-held position-after position-by
+    commit-jumps h₂ k = record {
+      state = k .state t ∙ rw (jump-held p l (w .program) i there a c (sym at));
+      position = k .position ∙ rw (← at);
+      header = k .header;
+      size = k .size;
+      text-size = w .text-size;
+    }
+
+  module _ (a c d : ℕ) (at : InstructionEntry.Ifeq a c d ≡ instruction-at p i) where
+    ifeq-tree : trees.instruction-held p i ≡ Instruction.ifeq (trees.base-held p a) (trees.base-held p c) (trees.base-held p d)
+    ifeq-tree = ifeq-held p l (w .program) i there a c d (sym at)
+
+    pub commit-can-ifeq : CanJump p l h c d
+    commit-can-ifeq = record { program = w .program; size = size-is; first = form .ifeq-to a c d (sym at) .there; second = form .ifeq-with a c d (sym at) .there }
+
+    module _ (v : Value) (ev : v ≡ value-given (operand-value p h a)) (b : Bool) (eb : b ≡ truth v) where
+      tested : b ≡ truth (value-given (base-value (self-held h) (program-held h) (heap-in word-store (store-held h t) .frames) (trees.base-held p a)))
+      unfolding operand-value
+      tested = eb ∙ rw (ev, frames-are h t)
+
+      pub commit-ifeq-on : b ≡ true → (h₂ : List ℕ) → h₂ ≡ set-position h (instruction-after p i) → Commits p l h t i h₂ t
+      unfolding commit state-held position-after position-by
+      commit-ifeq-on q h₂ eh = onward h₂ eh (rw (ifeq-tree, ← tested, q)) (rw (← at, ← ev, ← eb, q))
+
+      pub commit-ifeq-jumps : b ≡ false → (h₂ : List ℕ) → Jumps p l h c d h₂ → Commits p l h t i h₂ t
+      unfolding commit state-held position-after position-by
+      commit-ifeq-jumps q h₂ k = record {
+        state = k .state t ∙ rw (ifeq-tree, ← tested, q);
+        position = k .position ∙ rw (← at, ← ev, ← eb, q);
+        header = k .header;
+        size = k .size;
+        text-size = w .text-size;
+      }
+
+-- ---- commit
+
+module _ (p l h t : List ℕ) (i : ℕ) (can : CanCommit p l h t i) (k : ℕ) (ek : k ≡ instruction-kind p i) where
+  entry-show : k ≡ 2 → InstructionEntry.Show (instruction-a p i) ≡ instruction-at p i
+  unfolding instruction-at instruction-of
+  entry-show z = rw (← ek, z)
+
+  pub commit-shows : 2 ≤ k → (h₂ : List ℕ) → h₂ ≡ set-position h (instruction-after p i) → Commits p l h t i h₂ t
+  commit-shows ge = commit-show p l h t i (can .writable) (can .there) (instruction-a p i) (entry-show (let q = can .form .kind in omega arith))
+
+  module _ (lt : k < 2) where
     pub commit-can-assign : (x : ℕ) → x ≡ instruction-c p i → CanEvaluate p l h t x
-    commit-can-assign x ex = rw ex (can-assign (eqb k 0) (instruction-a p i) (instruction-b p i) (instruction-c p i) (assignment-entry p i k ek lt))
+    unfolding right-side
+    commit-can-assign x ex = rw ex (record {
+      writable = can .writable;
+      there = assignment-there p l (can .writable .program) i (can .there) (eqb k 0) (instruction-a p i) (instruction-b p i) (instruction-c p i) (assignment-entry p i k ek lt);
+      room = rw (assignment-tree p l (can .writable .program) i (can .there) (eqb k 0) (instruction-a p i) (instruction-b p i) (instruction-c p i) (assignment-entry p i k ek lt)) at (can .room);
+    })
 
     pub commit-assigned : (j n x : ℕ) → j ≡ instruction-a p i → n ≡ instruction-b p i → x ≡ instruction-c p i → (h₁ t₁ h₂ : List ℕ)
         → Assigns p l h t (path-of (eqb k 0) (path-list p n j)) x h₁ t₁ → h₂ ≡ set-position h₁ (instruction-after p i) → Commits p l h t i h₂ t₁
-    commit-assigned j n x ej en ex = commit-assigns (eqb k 0) j n x (rw (ej, en, ex) (assignment-entry p i k ek lt))
-
-  module _ (e : InstructionEntry) (ee : e ≡ instruction-at p i) where
-    form : InstructionForm p i
-    form = can .writable .program .entries .instruction i (can .there)
-
-    pub commit-show : (a : ℕ) (h₂ : List ℕ) → e ≡ InstructionEntry.Show a → h₂ ≡ set-position h (instruction-after p i) → Commits p l h t i h₂ t
-    unfolding commit state-held position-after position-by
-    commit-show a h₂ is eh = onward h₂ eh (rw (show-held p l (can .writable .program) i (can .there) a (sym ee ∙ is))) (rw (← ee, is))
-
-    -- an assignment is not met here
-    module _ (k : ℕ) (ek : k ≡ instruction-kind p i) (ge : 2 ≤ k) (j n x : ℕ) (h₂ : List ℕ) where
-      pub commit-no-self : e ≡ InstructionEntry.AssignSelf j n x → Commits p l h t i h₂ t
-      unfolding assignment
-      commit-no-self is = absurd (no-assignment p i k ek ge true j n x (sym is ∙ ee))
-
-      pub commit-no-program : e ≡ InstructionEntry.AssignProgram j n x → Commits p l h t i h₂ t
-      unfolding assignment
-      commit-no-program is = absurd (no-assignment p i k ek ge false j n x (sym is ∙ ee))
-
-    pub commit-bad : (h₂ : List ℕ) → e ≡ InstructionEntry.Bad → Commits p l h t i h₂ t
-    commit-bad h₂ is = absurd (form .formed (sym ee ∙ is))
-
-    module _ (a c : ℕ) (is : e ≡ InstructionEntry.Jump a c) where
-      pub commit-can-jump : CanJump p l h a c
-      commit-can-jump = record { program = can .writable .program; size = size-is; first = form .jump-to a c (sym ee ∙ is) .there; second = form .jump-with a c (sym ee ∙ is) .there }
-
-      pub commit-jumps : (h₂ : List ℕ) → Jumps p l h a c h₂ → Commits p l h t i h₂ t
-      unfolding commit state-held position-after position-by
-      commit-jumps h₂ k = record {
-        state = k .state t ∙ rw (jump-held p l (can .writable .program) i (can .there) a c (sym ee ∙ is));
-        position = k .position ∙ rw (← ee, is);
-        header = k .header;
-        size = k .size;
-        text-size = can .writable .text-size;
-      }
-
-    module _ (a c d : ℕ) (is : e ≡ InstructionEntry.Ifeq a c d) where
-      ifeq-tree : trees.instruction-held p i ≡ Instruction.ifeq (trees.base-held p a) (trees.base-held p c) (trees.base-held p d)
-      ifeq-tree = ifeq-held p l (can .writable .program) i (can .there) a c d (sym ee ∙ is)
-
-      pub commit-can-ifeq : CanJump p l h c d
-      commit-can-ifeq = record { program = can .writable .program; size = size-is; first = form .ifeq-to a c d (sym ee ∙ is) .there; second = form .ifeq-with a c d (sym ee ∙ is) .there }
-
-      module _ (v : Value) (ev : v ≡ value-given (operand-value p h a)) (b : Bool) (eb : b ≡ truth v) where
-        tested : b ≡ truth (value-given (base-value (self-held h) (program-held h) (heap-in word-store (store-held h t) .frames) (trees.base-held p a)))
-        unfolding operand-value
-        tested = eb ∙ rw (ev, frames-are h t)
-
-        pub commit-ifeq-on : b ≡ true → (h₂ : List ℕ) → h₂ ≡ set-position h (instruction-after p i) → Commits p l h t i h₂ t
-        unfolding commit state-held position-after position-by
-        commit-ifeq-on q h₂ eh = onward h₂ eh (rw (ifeq-tree, ← tested, q)) (rw (← ee, is, ← ev, ← eb, q))
-
-        pub commit-ifeq-jumps : b ≡ false → (h₂ : List ℕ) → Jumps p l h c d h₂ → Commits p l h t i h₂ t
-        unfolding commit state-held position-after position-by
-        commit-ifeq-jumps q h₂ k = record {
-          state = k .state t ∙ rw (ifeq-tree, ← tested, q);
-          position = k .position ∙ rw (← ee, is, ← ev, ← eb, q);
-          header = k .header;
-          size = k .size;
-          text-size = can .writable .text-size;
-        }
+    commit-assigned j n x ej en ex = commit-assigns p l h t i (can .writable) (can .there) (eqb k 0) j n x (rw (ej, en, ex) (assignment-entry p i k ek lt))

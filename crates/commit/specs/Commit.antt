@@ -26,6 +26,7 @@ use Rattle.operands.specs.Operands.{operand-value}
 use Rattle.state_form.specs.declared.Limits.{Limits}
 use Rattle.bounded.specs.Check.{Target, jump-result}
 use Rattle.bounded.specs.Bounded.{Bounded, value-given, evaluate, commit-assign, commit-jump, commit, heap-in}
+use Rattle.checking.specs.Checking.{AssignsOrShows}
 use Rattle.word_store.specs.Store.{Memories, word-store}
 use Rattle.word_store.specs.State.{store-held, state-held, with-remaining, HeaderFormed}
 use Rattle.producing.specs.Producing.{HasRoom, Writable}
@@ -127,10 +128,11 @@ position-by p h i InstructionEntry.Bad = instruction-after p i
 unfoldable pub position-after : List ℕ → List ℕ → ℕ → ℕ
 position-after p h i = position-by p h i (instruction-at p i)
 
--- instruction i is there, and there is room for what it makes
+-- instruction i is there and assigns or shows, and there is room for what it makes
 pub record CanCommit (p l h t : List ℕ) (i : ℕ) : Type 0 where
   pub writable : Writable p l h t
   pub there : i < instructions p
+  pub form : AssignsOrShows p i
   pub room : HasRoom h (frame-literals (right-side (trees.instruction-held p i))) (join-signs (right-side (trees.instruction-held p i)))
 
 pub record Commits (p l h t : List ℕ) (i : ℕ) (h′ t′ : List ℕ) : Type 0 where

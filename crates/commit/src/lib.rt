@@ -1,13 +1,11 @@
-// Commit: what an instruction does to the memories, after reserve and check. It cannot fail: where check has met an end nothing or integer 0 is written.
+// Commit: what an assignment or a show does to the memories, after reserve and check. It cannot fail: where check has met an end nothing or integer 0 is written.
 use framed::Value;
-use paths::Fetched;
 use puts::PutTarget;
-use tables::InstructionEntry;
 ghost use mathlib.Core.Path.{_≡_};
 ghost use Rattle.trees.specs.Trees.{path-list};
 ghost use Rattle.allocation.specs.Known.{Full};
 ghost use Rattle.evaluation.specs.Evaluation.{CanEvaluate};
-ghost use Rattle.commit.specs.Commit.{put-along, root-of, set-root, path-of, first-place, Assigns, CanJump, Jumps, CanCommit, Commits};
+ghost use Rattle.commit.specs.Commit.{put-along, root-of, set-root, path-of, first-place, Assigns, CanCommit, Commits};
 ghost use Rattle.heap.specs.Words.{set-position};
 ghost use Rattle.tables.specs.Fields.{instruction-after};
 
@@ -77,24 +75,6 @@ pub fn first_place(p: &[u32], k: u32) -> u32
     tables::code_first(p, k)
 }
 
-// The first operand's code replaces the rest, and self becomes the second operand.
-fn jump(p: &[u32], l: &[u8], h: &mut [u32], a: u32, c: u32)
-    requires { ⌜ CanJump (now p) (now l) (now h) a c ⌝ }
-    ensures { λ _. ⌜ Jumps (now (p .entry)) (now (l .entry)) (now (h .entry)) a c (now (h .exit)) ⌝ }
-{
-    let Fetched::Found(v) = operands::operand(p, h, a) else {
-        return;
-    };
-    let Value::Code(k) = v else {
-        return;
-    };
-    let Fetched::Found(w) = operands::operand(p, h, c) else {
-        return;
-    };
-    heap::set_self(h, w);
-    heap::set_position(h, first_place(p, k));
-}
-
 // On to the instruction after instruction i.
 pub fn go_on(p: &[u32], h: &mut [u32], i: u32)
     ensures { λ _. ⌜ now (h .exit) ≡ set-position (now (h .entry)) (instruction-after (now (p .entry)) i) ⌝ }
@@ -102,33 +82,20 @@ pub fn go_on(p: &[u32], h: &mut [u32], i: u32)
     heap::set_position(h, tables::instruction_after(p, i));
 }
 
-// What instruction i does: kinds 0 and 1 assign from self and from the program. Every frame below `low` and every made text below `least` is in use.
+// What instruction i does, which assigns or shows: kinds 0 and 1 assign from self and from the program. Every frame below `low` and every made text below `least` is in use.
 pub fn commit(p: &[u32], l: &[u8], h: &mut [u32], t: &mut [u8], i: u32, low: u32, least: u32)
     requires { ⌜ CanCommit (now p) (now l) (now h) (now t) i ⌝ }
     requires { ⌜ Full (now h) low least ⌝ }
     ensures { λ _. ⌜ Commits (now (p .entry)) (now (l .entry)) (now (h .entry)) (now (t .entry)) i (now (h .exit)) (now (t .exit)) ⌝ }
 {
     let kind = tables::instruction_kind(p, i);
-    if kind < 2 {
-        let j = tables::instruction_a(p, i);
-        let n = tables::instruction_b(p, i);
-        let x = tables::instruction_c(p, i);
-        assign(p, l, h, t, kind == 0, j, n, x, low, least);
+    if 2 <= kind {
         go_on(p, h, i);
         return;
     }
-    match tables::instruction_at(p, i) {
-        InstructionEntry::AssignSelf(_, _, _) => go_on(p, h, i),
-        InstructionEntry::AssignProgram(_, _, _) => go_on(p, h, i),
-        InstructionEntry::Show(_) => go_on(p, h, i),
-        InstructionEntry::Jump(a, c) => jump(p, l, h, a, c),
-        InstructionEntry::Ifeq(a, c, d) => {
-            if texts::truth(producing::given(p, h, a)) {
-                go_on(p, h, i);
-                return;
-            }
-            jump(p, l, h, c, d);
-        }
-        InstructionEntry::Bad => go_on(p, h, i),
-    }
+    let j = tables::instruction_a(p, i);
+    let n = tables::instruction_b(p, i);
+    let x = tables::instruction_c(p, i);
+    assign(p, l, h, t, kind == 0, j, n, x, low, least);
+    go_on(p, h, i);
 }

@@ -40,7 +40,7 @@ use Rattle.operators.proofs.Laws.{operates-join}
 use Rattle.operand_checks.specs.OperandChecks.{put-end}
 use Rattle.operand_checks.proofs.Laws as ends-laws
 use Rattle.operand_checks.proofs.Laws.{put-empty}
-use Rattle.checking.specs.Checking.{ChecksExpression, operation-end, expression-end, single-end}
+use Rattle.checking.specs.Checking.{AssignsOrShows, ChecksExpression, operation-end, expression-end, single-end}
 use Rattle.checking.proofs.Laws as checking
 use Rattle.checking.proofs.Laws.{single-is, assign-met, assign-put}
 use Rattle.producing.specs.Producing.{CanJoin, Joins, CanProduce}
@@ -73,6 +73,9 @@ module _ (p : List ℕ) (i : ℕ) (is : joins-entry p i ≡ true) where
       go (yes lt) = lt
       go (no ge) = absurd (true≢false (sym (rw (le-leb 2 (instruction-kind p i) (omega arith)) at is)))
 
+  pub join-form : AssignsOrShows p i
+  join-form = record { kind = let q = assigns-below in omega arith }
+
   join-kind : expression-kind p (instruction-c p i) ≡ 12
   unfolding joins-entry
   join-kind = eqb-true _ _ (rw (lt-leb 2 (instruction-kind p i) assigns-below) at is)
@@ -91,7 +94,7 @@ module _ (p l h t : List ℕ) (i : ℕ) (can : CanAssignJoin p l h t i) where
   own = eqb (instruction-kind p i) 0
 
   along : Assignment p l h t i (instruction-a p i) (instruction-b p i) x (root-of own h) (path-of own (path-list p (instruction-b p i) (instruction-a p i)))
-  along = root-path p l h t i (instruction-a p i) (instruction-b p i) x (can .checks) own (assignment-entry p i (instruction-kind p i) refl (assigns-below p i (can .joins)))
+  along = root-path p l h t i (instruction-a p i) (instruction-b p i) x (can .checks .memories) (can .checks .there) own (assignment-entry p i (instruction-kind p i) refl (assigns-below p i (can .joins)))
 
   pub join-no-show : (a : ℕ) → instruction-at p i ≡ InstructionEntry.Show a → ⊥
   join-no-show = along .quiet
@@ -231,7 +234,7 @@ module _ (p l h t : List ℕ) (i : ℕ) (v w : Value) (can : CanPutJoin p l h t 
 
     made : 0 ≡ put-end p h (root-of own-path h) j n → (h₂ t₁ : List ℕ) → Assigns p l h t (path-of own-path (path-list p n j)) (instruction-c p i) h₂ t₁
         → (h₃ : List ℕ) → h₃ ≡ set-position h₂ (instruction-after p i) → JoinsOnce p l h t i 0 h₃ t₁
-    made z h₂ t₁ d h₃ eh = record { end = end-is 0 z; made = λ q. way .done (can .can .commits) h₂ t₁ h₃ d eh; kept = λ q. absurd (q refl) }
+    made z h₂ t₁ d h₃ eh = record { end = end-is 0 z; made = λ q. way .done (can .can .commits .writable) h₂ t₁ h₃ d eh; kept = λ q. absurd (q refl) }
 
     pub join-set : n ≡ 0 → (u : Value) (h₁ t₁ : List ℕ) → Joins p l h t v w u h₁ t₁ → (h₂ : List ℕ) → h₂ ≡ set-root (eqb k 0) h₁ u
         → (h₃ : List ℕ) → h₃ ≡ set-position h₂ (instruction-after p i) → JoinsOnce p l h t i 0 h₃ t₁

@@ -39,14 +39,14 @@ use Rattle.arith.specs.declared.Arithmetic.{Arithmetic}
 use Rattle.arith.specs.Arith.{outcome}
 use Rattle.operators.specs.Operators.{operator-of, arithmetic-operated, compared}
 use Rattle.operators.proofs.Laws.{arithmetic-means, compared-means}
-use Rattle.operand_checks.specs.OperandChecks.{jump-end}
 use Rattle.operand_checks.proofs.Laws as ends-laws
 use Rattle.producing.specs.Producing.{operation-held}
 use Rattle.evaluation.proofs.Stores.{full-frame}
 use Rattle.commit.specs.Commit.{put-along, first-place, CanJump, Jumps}
 use Rattle.commit.proofs.Laws.{put-somewhere, jump-none, jump-no-code, jump-second, jump-both}
 use Rattle.direct.specs.declared.Given.{Given}
-use Rattle.direct.specs.Direct.{of-base, of-not, of-product, operation-given, entry-given, expression-given, PutsSlot, Puts, PutsFrom, JumpsOnce}
+use Rattle.direct.specs.Direct.{of-base, of-not, of-product, operation-given, entry-given, expression-given, PutsSlot, Puts, PutsFrom, jump-end, JumpsOnce}
+use Rattle.direct.proofs.Ends as ends
 
 -- ---- from_fetched, negation
 
@@ -245,22 +245,22 @@ module _ (p l h : List ℕ) (a c : ℕ) (can : CanJump p l h a c) (r : Fetched) 
   ended e k = record { end = e; jumps = k; kept = λ q. refl }
 
   pub jump-nothing : r ≡ Fetched.Undefined → JumpsOnce p l h a c 31 h
-  jump-nothing e = ended (ends-laws.jump-undefined p h a c r er e) (jump-none p l h a c can r er e)
+  jump-nothing e = ended (ends.jump-undefined p h a c r er e) (jump-none p l h a c can r er e)
 
   module _ (v : Value) (ev : r ≡ Fetched.Found v) where
     pub jump-other : OneOf (0 ∷ 1 ∷ 3 ∷ []) (tagOf the-type v) → JumpsOnce p l h a c 31 h
-    jump-other o = ended (ends-laws.jump-other p h a c r er v ev o) (jump-no-code p l h a c can r er v ev o)
+    jump-other o = ended (ends.jump-other p h a c r er v ev o) (jump-no-code p l h a c can r er v ev o)
 
     module _ (k : ℕ) (ek : v ≡ Value.Code k) (q : Fetched) (eq : defined (fetched q) ≡ operand-value p h c) where
       pub jump-no-self : q ≡ Fetched.Undefined → JumpsOnce p l h a c 31 h
       jump-no-self e =
-          ended (ends-laws.jump-code p h a c r er v ev k 31 ek (ends-laws.operand-undefined p h c q eq e))
+          ended (ends.jump-code p h a c r er v ev k 31 ek (ends.operand-undefined p h c q eq e))
           (jump-second p l h a c can r er v ev k ek q eq e)
 
       pub jump-made : (w : Value) (h₁ h₂ : List ℕ) (z : ℕ) → q ≡ Fetched.Found w → h₁ ≡ set-self h w → h₂ ≡ set-position h₁ z → z ≡ first-place p k
           → JumpsOnce p l h a c 0 h₂
       jump-made w h₁ h₂ z ew e₁ e₂ ez = record {
-        end = ends-laws.jump-code p h a c r er v ev k 0 ek (ends-laws.operand-found p h c q eq w ew);
+        end = ends.jump-code p h a c r er v ev k 0 ek (ends.operand-found p h c q eq w ew);
         jumps = jump-both p l h a c can r er v ev k ek q eq w ew h₁ h₂ z e₁ e₂ ez;
         kept = λ s. absurd (s refl);
       }

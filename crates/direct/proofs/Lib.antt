@@ -1,3 +1,5 @@
+pub mod Ends
+pub mod Making
 pub mod Laws
 pub mod Values
 pub mod Assignment

@@ -5,6 +5,8 @@ use mathlib.Core.Bool.{Bool, true, false, not}
 use mathlib.Core.List.{List, [], _∷_}
 use native.Mathlib.Omega.{arith}
 use native.Mathlib.Decide.{ℕ-discrete}
+use lib.IntN.{ℤ, _+ℤ_, _-ℤ_, _*ℤ_}
+use lib.Signed.{ltZ}
 use lib.Dec.{eqb, ltb}
 use types.Run.{OneOf, hit}
 use denote.Enum.Declared.{tagOf}
@@ -12,23 +14,24 @@ use borrow.Author.Tests.{eq-eqb, ne-eqb}
 use Rattle.words.specs.Words.{pick}
 use Rattle.framed.specs.declared.Value.{Value}
 use Rattle.framed.specs.Values.{Heap, truth, bit}
-use Rattle.framed.specs.Tokens.{Operator}
-use Rattle.framed.specs.Machine.{Result, gives, ends, is-join, frame-literals, join-signs}
+use Rattle.framed.specs.Common.{if_then_else_}
+use Rattle.framed.specs.Tokens.{Operator, in-range}
+use Rattle.framed.specs.Machine as M
+use Rattle.framed.specs.Machine.{Result, gives, ends, integer-in, quotient, is-join, frame-literals, join-signs}
 use Rattle.tables.specs.declared.ExpressionEntry.{ExpressionEntry}
 use Rattle.tables.proofs.ExpressionEntry.{the-type}
 use Rattle.tables.specs.Entries.{expression-at}
 use Rattle.tables.specs.Fields.{expressions}
 use Rattle.trees.specs.Trees.{expression-tree}
-use Rattle.trees.specs.Held.{expression-held, held, base-held}
+use Rattle.trees.specs.Held.{expression-held, held}
 use Rattle.trees.proofs.Held.{one-level-held}
-use Rattle.heap.specs.Words.{self-held, program-held}
-use Rattle.heap.specs.Held.{frames-held, texts-held, heap-held}
+use Rattle.heap.specs.Held.{texts-held, heap-held}
 use Rattle.texts.specs.Literals.{literals-held}
-use Rattle.bounded.specs.Operations.{Product, number, text, operated}
+use Rattle.bounded.specs.Operations.{Product, number, text, ranged, flag, operated}
 use Rattle.bounded.specs.Check.{end-of, operation-result}
 use Rattle.bounded.specs.Bounded.{value-given, produce}
 use Rattle.bounded.proofs.Operations.{keep, operate-is}
-use Rattle.bounded.proofs.UnboundedRuns.{Within, within-bind, base-within, operate-within}
+use Rattle.bounded.proofs.UnboundedRuns.{Within, within-bind, operate-within}
 use Rattle.operands.specs.Operands.{operand-value}
 use Rattle.operators.specs.Operators.{arithmetic-of, operator-of}
 use Rattle.checking.specs.Checking.{ChecksExpression, operation-end, expression-end, single-end}
@@ -40,12 +43,9 @@ use Rattle.evaluation.specs.Evaluation.{CanEvaluate, Evaluates}
 use Rattle.evaluation.proofs.Simple.{read-made, operation-frames, operation-signs, operation-made}
 use Rattle.direct.specs.declared.Given.{Given}
 use Rattle.direct.specs.Direct.{of-base, of-not, of-product, operation-given, entry-given, expression-given}
+use Rattle.direct.proofs.Ends.{operand-within}
 
--- ---- An end is not 0
-
-operand-within : (p h : List ℕ) (x : ℕ) → Within (operand-value p h x)
-unfolding operand-value
-operand-within p h x = base-within (self-held h) (program-held h) (frames-held h) (base-held p x)
+-- ---- An end is 31 to 35
 
 operated-within : (ls made : List (List ℕ)) (o : Operator) (v w : Value) → Within (operated ls made o v w)
 unfolding keep
@@ -64,9 +64,6 @@ operation-within p l h t k a b =
     within-bind (operand-value p h a) _ (operand-within p h a) (λ v.
     within-bind (operand-value p h b) _ (operand-within p h b) (λ w. operated-within (literals-held p l) (texts-held h t) (operator-of k) v w))
 
-not-zero : (e : ℕ) → (31 ≤ e) × (e ≤ 35) → e ≡ 0 → ⊥
-not-zero e (a, b) z = omega arith
-
 -- ---- Only kind 12 makes a text
 
 no-join : (k : ℕ) → (k ≡ 12 → ⊥) → is-join (operator-of k) ≡ 0
@@ -84,12 +81,65 @@ no-join k ne = rw (ne-eqb k 12 ne) (go (ltb k 12) (eqb k 7) (eqb k 8) (eqb k 9) 
     go false b c d e false true = refl
     go false b c d e false false = refl
 
+join-sign : is-join (operator-of 12) ≡ 1
+unfolding operator-of is-join
+join-sign = refl
+
+-- and gives one
+abbrev NoText : Result Product → Type 0
+NoText (gives (number z)) = Unit
+NoText (gives (text bs)) = ⊥
+NoText (ends e) = Unit
+
+no-text-bind : {A : Type 0} (m : Result A) (f : A → Result Product) → ((a : A) → NoText (f a)) → NoText (M._>>=_ m f)
+unfolding M._>>=_
+no-text-bind (gives a) f k = k a
+no-text-bind (ends e) f k = tt
+
+no-text-two : (v w : Value) (f : ℤ → ℤ → Result Product) → ((y z : ℤ) → NoText (f y z)) → NoText (M._>>=_ (integer-in v) (λ y. M._>>=_ (integer-in w) (λ z. f y z)))
+no-text-two v w f k = no-text-bind (integer-in v) _ (λ y. no-text-bind (integer-in w) _ (λ z. k y z))
+
+ranged-no-text : (z : ℤ) → NoText (ranged z)
+unfolding ranged
+ranged-no-text z = go (in-range z)
+  where
+    go : (b : Bool) → NoText (if b then gives (number z) else ends 33)
+    go true = tt
+    go false = tt
+
+flag-no-text : (b : Bool) → NoText (gives (flag b))
+unfolding flag
+flag-no-text true = tt
+flag-no-text false = tt
+
+operated-no-text : (ls made : List (List ℕ)) (o : Operator) (v w : Value) → is-join o ≡ 0 → NoText (operated ls made o v w)
+unfolding operated is-join
+operated-no-text ls made Operator.plus v w e = no-text-two v w _ (λ y z. ranged-no-text (y +ℤ z))
+operated-no-text ls made Operator.minus v w e = no-text-two v w _ (λ y z. ranged-no-text (y -ℤ z))
+operated-no-text ls made Operator.times v w e = no-text-two v w _ (λ y z. ranged-no-text (y *ℤ z))
+operated-no-text ls made Operator.over v w e = no-text-two v w _ (λ y z. no-text-bind (quotient y z) _ (λ q. ranged-no-text q))
+operated-no-text ls made Operator.less v w e = no-text-two v w _ (λ y z. flag-no-text (ltZ y z))
+operated-no-text ls made Operator.join v w e = absurd (omega arith)
+operated-no-text ls made Operator.equal v w e = flag-no-text _
+operated-no-text ls made Operator.and v w e = flag-no-text _
+operated-no-text ls made Operator.or v w e = flag-no-text _
+
+operation-no-text : (p l h t : List ℕ) (k a b : ℕ) → (k ≡ 12 → ⊥) → NoText (operation-held p l h t k a b)
+unfolding operation-held
+operation-no-text p l h t k a b ne =
+    no-text-bind (operand-value p h a) _ (λ v. no-text-bind (operand-value p h b) _ (λ w. operated-no-text (literals-held p l) (texts-held h t) (operator-of k) v w (no-join k ne)))
+
 -- ---- By the entry
 
 -- expression x makes nothing
 pub record Still (p : List ℕ) (x : ℕ) : Type 0 where
   pub frames : frame-literals (expression-held p x) ≡ 0
   pub texts : join-signs (expression-held p x) ≡ 0
+
+-- it makes a frame or a text
+pub data MakesSome (p : List ℕ) (x : ℕ) : Type 0 where
+  a-frame : 0 < frame-literals (expression-held p x) → MakesSome p x
+  a-text : 0 < join-signs (expression-held p x) → MakesSome p x
 
 module _ (p l h t : List ℕ) (x : ℕ) where
   pub record GivesValue (v : Value) : Type 0 where
@@ -100,12 +150,12 @@ module _ (p l h t : List ℕ) (x : ℕ) where
   pub record GivesEnd (e : ℕ) : Type 0 where
     pub still : Still p x
     pub end : e ≡ expression-end p l h t x
-    pub some : e ≡ 0 → ⊥
+    pub number : (31 ≤ e) × (e ≤ 35)
 
   abbrev pub Gives : Given → Type 0
   Gives (Given.Value v) = GivesValue v
   Gives (Given.Ended e) = GivesEnd e
-  Gives Given.Makes = Unit
+  Gives Given.Makes = MakesSome p x
 
   module _ (w : Writable p l h t) (there : x < expressions p) where
     checks : ChecksExpression p l h t x
@@ -124,7 +174,7 @@ module _ (p l h t : List ℕ) (x : ℕ) where
       where
         go : (o : Result Value) → Within o → end-of o ≡ expression-end p l h t x → Evaluates p l h t x (value-given o) h t → Gives (of-base o)
         go (gives v) k q m = record { still = s; end = q; evaluates = m }
-        go (ends e) k q m = record { still = s; end = q; some = not-zero e k }
+        go (ends e) k q m = record { still = s; end = q; number = k }
 
     -- `!` of one
     negated : (a : ℕ) → Still p x → end-of (operand-value p h a) ≡ expression-end p l h t x → Evaluates p l h t x (bit (not (truth (value-given (operand-value p h a))))) h t → Gives (of-not (operand-value p h a))
@@ -133,7 +183,7 @@ module _ (p l h t : List ℕ) (x : ℕ) where
       where
         go : (o : Result Value) → Within o → end-of o ≡ expression-end p l h t x → Evaluates p l h t x (bit (not (truth (value-given o)))) h t → Gives (of-not o)
         go (gives v) k q m = record { still = s; end = q; evaluates = m }
-        go (ends e) k q m = record { still = s; end = q; some = not-zero e k }
+        go (ends e) k q m = record { still = s; end = q; number = k }
 
     -- an operator
     module _ (few : HasRoom h 0 0) (k a b : ℕ) (at : ExpressionEntry.Operate k a b ≡ expression-at p x) (ne : k ≡ 12 → ⊥) where
@@ -152,18 +202,18 @@ module _ (p l h t : List ℕ) (x : ℕ) where
 
       operated-gives : Gives (of-product (operation-held p l h t k a b))
       unfolding of-product end-of produce
-      operated-gives = go (operation-held p l h t k a b) refl (operation-within p l h t k a b) end-is
+      operated-gives = go (operation-held p l h t k a b) refl (operation-within p l h t k a b) (operation-no-text p l h t k a b ne) end-is
         where
-          go : (o : Result Product) → operation-held p l h t k a b ≡ o → Within o → end-of o ≡ expression-end p l h t x → Gives (of-product o)
-          go (gives (number z)) eo u q = record {
+          go : (o : Result Product) → operation-held p l h t k a b ≡ o → Within o → NoText o → end-of o ≡ expression-end p l h t x → Gives (of-product o)
+          go (gives (number z)) eo u nt q = record {
             still = still-operation;
             end = q;
             evaluates =
                 operation-made p l h t x can k a b (sym at) (Value.Int z) h t
                 (record { produced = rw eo; leaves = leaves-none 0 (is-join (operator-of k)) (w .sized) (w .text-size) });
           }
-          go (gives (text bs)) eo u q = tt
-          go (ends e) eo u q = record { still = still-operation; end = q; some = not-zero e u }
+          go (gives (text bs)) eo u nt q = absurd nt
+          go (ends e) eo u nt q = record { still = still-operation; end = q; number = u }
 
     module _ (few : HasRoom h 0 0) where
       operation-gives : (k a b : ℕ) → ExpressionEntry.Operate k a b ≡ expression-at p x → Gives (operation-given p l h t k a b)
@@ -171,7 +221,7 @@ module _ (p l h t : List ℕ) (x : ℕ) where
       operation-gives k a b at = go (ℕ-discrete k 12)
         where
           go : Dec (k ≡ 12) → Gives (pick (eqb k 12) Given.Makes (of-product (operation-held p l h t k a b)))
-          go (yes e) = rw (eq-eqb k 12 e) tt
+          go (yes e) = rw (eq-eqb k 12 e) (a-text (rw (operation-signs p l (w .program) x there k a b (sym at), e, join-sign) (omega arith)))
           go (no ne) = rw (ne-eqb k 12 ne) (operated-gives few k a b at ne)
 
       -- by the tag: neither frame literal nor operation
@@ -197,13 +247,13 @@ module _ (p l h t : List ℕ) (x : ℕ) where
       entry-gives (ExpressionEntry.Code k) at =
           base-gives (ExpressionEntry.Code k) at (hit (0 ∷ 1 ∷ 2 ∷ 3 ∷ 4 ∷ 6 ∷ 7 ∷ 8 ∷ []) 4 tt) (hit (0 ∷ 1 ∷ 2 ∷ 3 ∷ 4 ∷ 5 ∷ 6 ∷ 8 ∷ []) 4 tt)
           (λ d q. absurd (let z : _≡_ {A = ℕ} 0 1 = cc in omega arith)) (still (ExpressionEntry.Code k) at refl refl) refl refl
-      entry-gives (ExpressionEntry.Frame d) at = tt
+      entry-gives (ExpressionEntry.Frame d) at = a-frame (rw (tree (ExpressionEntry.Frame d) at) (omega arith))
       entry-gives (ExpressionEntry.Not a) at =
           negated a (still (ExpressionEntry.Not a) at refl refl)
           (single-is p l h t x checks (ExpressionEntry.Not a) at (hit (0 ∷ 1 ∷ 2 ∷ 3 ∷ 4 ∷ 6 ∷ 7 ∷ 8 ∷ []) 6 tt))
           (read-made p l h t x w there (ExpressionEntry.Not a) (sym at) (λ d q. absurd (let z : _≡_ {A = ℕ} 0 1 = cc in omega arith)) (hit (0 ∷ 1 ∷ 2 ∷ 3 ∷ 4 ∷ 5 ∷ 6 ∷ 8 ∷ []) 6 tt))
       entry-gives (ExpressionEntry.Operate k a b) at = operation-gives k a b at
-      entry-gives ExpressionEntry.Bad at = tt
+      entry-gives ExpressionEntry.Bad at = absurd (w .program .entries .expression x there .formed (sym at))
 
       pub expression-gives : (r : Given) → r ≡ expression-given p l h t x → Gives r
       unfolding expression-given

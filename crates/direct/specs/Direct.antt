@@ -3,7 +3,7 @@
 use Prim.Native.Nat.{ℕ, _<_}
 use mathlib.Core.Path.{_≡_}
 use mathlib.Core.Bool.{Bool, true, false, not}
-use mathlib.Core.List.{List}
+use mathlib.Core.List.{List, []}
 use lib.Dec.{eqb, leb}
 use lib.ListN.{getElem?}
 use Rattle.words.specs.Words.{pick}
@@ -21,10 +21,10 @@ use Rattle.paths.specs.Paths.{path-held}
 use Rattle.puts.specs.Puts.{target-along, put-slot}
 use Rattle.joining.specs.Joining.{join-end}
 use Rattle.operands.specs.Operands.{operand-value}
-use Rattle.operand_checks.specs.OperandChecks.{put-end, jump-end}
+use Rattle.operand_checks.specs.OperandChecks.{put-end}
 use Rattle.wellformed.specs.WellFormed.{WellFormed}
 use Rattle.bounded.specs.Operations.{Product, number, text}
-use Rattle.bounded.specs.Check.{slot-end, target-end, check}
+use Rattle.bounded.specs.Check.{end-of, slot-end, target-end, jump-result, check}
 use Rattle.checking.specs.Checking.{ChecksInstruction}
 use Rattle.producing.specs.Producing.{operation-held}
 use Rattle.commit.specs.Commit.{put-along, Jumps, CanCommit, Commits}
@@ -89,6 +89,10 @@ pub record PutsFrom (p h h₀ : List ℕ) (root : Value) (j n : ℕ) (v : Value)
 
 -- ---- Jumps
 
+-- the end of a jump by the expressions a and c; it is the same for every list of codes
+unfoldable pub jump-end : List ℕ → List ℕ → ℕ → ℕ → ℕ
+jump-end p h a c = end-of (jump-result [] (self-held h) (program-held h) (frames-held h) (trees.base-held p a) (trees.base-held p c))
+
 pub record JumpsOnce (p l h : List ℕ) (a c r : ℕ) (h′ : List ℕ) : Type 0 where
   pub end : r ≡ jump-end p h a c
   pub jumps : Jumps p l h a c h′
@@ -115,6 +119,12 @@ pub record MakesNothing (p : List ℕ) (i : ℕ) : Type 0 where
   pub frames : frame-literals (right-side (trees.instruction-held p i)) ≡ 0
   pub texts : join-signs (right-side (trees.instruction-held p i)) ≡ 0
 
+-- it makes a frame or a text, or shows
+pub data MakesOrShows (p : List ℕ) (i : ℕ) : Type 0 where
+  makes-frame : 0 < frame-literals (right-side (trees.instruction-held p i)) → MakesOrShows p i
+  makes-text : 0 < join-signs (right-side (trees.instruction-held p i)) → MakesOrShows p i
+  shows : (a : ℕ) → instruction-at p i ≡ InstructionEntry.Show a → MakesOrShows p i
+
 module _ (p l h t : List ℕ) (i : ℕ) where
   -- the end of 31 to 35 that it meets first, 0 where it meets none
   abbrev pub end-met : ℕ
@@ -134,11 +144,16 @@ module _ (p l h t : List ℕ) (i : ℕ) where
     pub some : e ≡ 0 → ⊥
     pub words : h′ ≡ h
 
-  -- by the answer: 0 made, 255 not looked at, else the end
+  -- it is left, as it makes something or shows, and nothing is written
+  pub record IsLeft (h′ : List ℕ) : Type 0 where
+    pub why : MakesOrShows p i
+    pub words : h′ ≡ h
+
+  -- by the answer: 0 made, 255 left, else the end
   pub record Does (r : ℕ) (h′ : List ℕ) : Type 0 where
     pub made : r ≡ 0 → IsMade h′
     pub ended : (r ≡ 0 → ⊥) → (r ≡ 255 → ⊥) → IsEnded r h′
-    pub other : r ≡ 255 → h′ ≡ h
+    pub left : r ≡ 255 → IsLeft h′
 
 -- ---- `:=` of a join, after reserve
 

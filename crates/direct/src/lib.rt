@@ -1,5 +1,5 @@
 // An instruction that makes no frame and no text, and `:=` of a join after reserve, in one go: each operand is read once and each path walked once, and an end that is met leaves the words as they are.
-// What became of it is a number: 0 it is made, 31 to 35 the end that it meets, 255 it was not looked at, as it makes something or shows.
+// What became of it is a number: 0 it is made, 31 to 35 the end that it meets, 255 it is left, as it makes something or shows.
 use arith::Arithmetic;
 use framed::Text;
 use framed::Value;
@@ -198,17 +198,17 @@ fn branch(p: &[u32], l: &[u8], h: &mut [u32], t: &[u8], i: u32, a: u32, c: u32, 
     requires { ⌜ CanDoEntry (now p) (now l) (now h) (now t) i (InstructionEntry.Ifeq a c d) ⌝ }
     ensures { λ r. ⌜ Does (now (p .entry)) (now (l .entry)) (now (h .entry)) (now (t .entry)) i r (now (h .exit)) ⌝ }
 {
-    let Fetched::Found(v) = operands::operand(p, h, a) else {
+    let Fetched::Found(test) = operands::operand(p, h, a) else {
         return 31;
     };
-    if texts::truth(v) {
+    if texts::truth(test) {
         commit::go_on(p, h, i);
         return 0;
     }
     jump(p, l, h, c, d)
 }
 
-// Instruction i, where it makes nothing and shows nothing.
+// Instruction i, where it makes nothing and shows nothing; else it is left.
 pub fn direct<'a>(p: &[u32], l: &'a [u8], h: &mut [u32], t: &'a [u8], i: u32) -> u32
     requires { ⌜ CanDo (now p) (now l) (now h) (now t) i ⌝ }
     ensures { λ r. ⌜ Does (now (p .entry)) (now (l .entry)) (now (h .entry)) (now (t .entry)) i r (now (h .exit)) ⌝ }
@@ -254,14 +254,14 @@ fn put_join(
 {
     let own = tables::instruction_kind(p, i) == 0;
     let j = tables::instruction_a(p, i);
-    let n = tables::instruction_b(p, i);
-    if n == 0 {
+    let names = tables::instruction_b(p, i);
+    if names == 0 {
         let u = producing::join(p, l, h, t, v, w, least);
         commit::set_root(h, own, u);
         commit::go_on(p, h, i);
         return 0;
     }
-    let PutTarget::At(f, name) = puts::put_target(p, h, commit::root(h, own), j, n) else {
+    let PutTarget::At(f, name) = puts::put_target(p, h, commit::root(h, own), j, names) else {
         return 31;
     };
     let full = puts::slot_end(h, f, name);

@@ -7,7 +7,7 @@ use Rattle.allocation.specs.declared.Known.{Known}
 use Rattle.allocation.specs.Known.{Knows}
 use Rattle.commit.specs.Words.{WordsFit}
 use Rattle.direct.specs.Direct as direct
-use Rattle.direct.specs.Direct.{CanDo, MakesNothing, IsMade, IsEnded, Does}
+use Rattle.direct.specs.Direct.{CanDo, MakesNothing, MakesOrShows, IsMade, IsEnded, Does}
 use Rattle.step.specs.declared.Outcome.{Outcome}
 use Rattle.step.specs.Step.{RoomFor, Formed, CanStep, CanAttempt, Attempts}
 use Rattle.step.proofs.Reserve.{nothing-reserved}
@@ -57,13 +57,19 @@ module _ (p l h t : List ℕ) (i : ℕ) (out : List ℕ) (used : ℕ) (can : Can
     pub ended-knows-still : Knows h′ 0 0 known
     ended-knows-still = ended-then-knows p l h t i (can .step) known ended-room r (ended .end) some h′ marked
 
-  -- else it is as it was
+  -- else it makes something or shows, and all is as it was
   module _ (is : r ≡ 255) where
-    pub other-can : CanAttempt p l h₁ t i out used
-    other-can = rw (k .other is) can
+    as-it-was : h₁ ≡ h
+    as-it-was = k .left is .words
 
-    pub other-knows : Knows h₁ 0 0 known
-    other-knows = rw (k .other is) a
+    pub left-can : CanAttempt p l h₁ t i out used
+    left-can = rw as-it-was can
 
-    pub other-attempts : (o : Outcome) (h′ t′ out′ : List ℕ) → Attempts p l h₁ t i out used o h′ t′ out′ → Attempts p l h t i out used o h′ t′ out′
-    other-attempts o h′ t′ out′ q = rw (k .other is) at q
+    pub left-why : MakesOrShows p i
+    left-why = k .left is .why
+
+    pub left-knows : Knows h₁ 0 0 known
+    left-knows = rw as-it-was a
+
+    pub left-attempts : (o : Outcome) (h′ t′ out′ : List ℕ) → Attempts p l h₁ t i out used o h′ t′ out′ → Attempts p l h t i out used o h′ t′ out′
+    left-attempts o h′ t′ out′ q = rw as-it-was at q

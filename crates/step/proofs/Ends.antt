@@ -23,7 +23,7 @@ use Rattle.bounded.specs.Bounded.{Bounded, heap-in, reserved, reserve, ready, s
 use Rattle.word_store.specs.Store.{Memories, word-store}
 use Rattle.word_store.specs.State.{state-held}
 use Rattle.evaluation.proofs.Stores.{heap-is}
-use Rattle.checking.specs.Checking.{ChecksInstruction}
+use Rattle.checking.specs.Checking.{AssignsOrShows, ChecksInstruction}
 use Rattle.checking.proofs.Memories.{instruction-checks}
 use Rattle.reserving.specs.Reserving.{room-end-held, reserved-words, Reserves}
 use Rattle.reserving.proofs.Meaning.{reserve-ready, reserve-end}
@@ -86,8 +86,8 @@ module _ (p l h t : List ℕ) (i : ℕ) (can : CanStep p l h t i) where
     unfolding ready-words
     is-ready = k .words
 
-    pub ready-checks : ChecksInstruction p l h₁ t i
-    ready-checks = rw is-ready (instruction-checks p (ready-words p h i) l t ready-formed i (can .there))
+    pub ready-checks : AssignsOrShows p i → ChecksInstruction p l h₁ t i
+    ready-checks f = rw is-ready (instruction-checks p (ready-words p h i) l t ready-formed i (can .there) f)
 
     reserved-end : reserve word-store (frame-limit p) (text-limit p) now (instruction-held p i) ≡ r
     reserved-end = sym (reserve-end (remaining p) p h t (instruction-held p i) r h₁ k (formed-now .state .heap-size))

@@ -8,14 +8,14 @@ use Rattle.allocation.specs.declared.Known.{Known}
 use Rattle.allocation.specs.Known.{Knows}
 use Rattle.commit.specs.Words.{WordsFit}
 use Rattle.direct.specs.Direct.{joins-entry, CanAssignJoin, JoinsOnce}
-use Rattle.direct.proofs.Join.{join-no-show}
+use Rattle.direct.proofs.Join.{join-form, join-no-show}
 use Rattle.step.specs.declared.Outcome.{Outcome}
 use Rattle.step.specs.Step.{RoomFor, CanStep, AttemptsQuietly}
 use Rattle.step.proofs.Room.{room-checks, room-commits, ended-quietly, ended-then-knows, made-quietly, made-then-knows}
 
 module _ (p l h t : List ℕ) (i : ℕ) (can : CanStep p l h t i) (k : Known) (w : RoomFor p h i k) (is : joins-entry p i ≡ true) where
   pub can-assign : CanAssignJoin p l h t i
-  can-assign = record { checks = room-checks p l h t i can k w; commits = room-commits p l h t i can k w; joins = is }
+  can-assign = record { checks = room-checks p l h t i can k w (join-form p i is); commits = room-commits p l h t i can k w (join-form p i is); joins = is }
 
   module _ (d : ℕ) (h₂ t₂ : List ℕ) (j : JoinsOnce p l h t i d h₂ t₂) where
     module _ (ne : d ≡ 0 → ⊥) (h′ : List ℕ) (eh : h′ ≡ set-end-mark h₂ d) where

@@ -19,10 +19,12 @@ use Rattle.reserving.specs.Reserving.{Reserves, Reckons}
 use Rattle.reserving.proofs.Meaning.{reserved-header}
 use Rattle.commit.specs.Commit.{state-of}
 use Rattle.commit.specs.Words.{WordsFit}
-use Rattle.direct.specs.Direct.{end-met}
+use Rattle.checking.specs.Checking.{AssignsOrShows}
+use Rattle.direct.specs.Direct.{MakesOrShows, end-met}
+use Rattle.direct.proofs.Making.{left-form}
 use Rattle.step.specs.declared.Outcome.{Outcome}
 use Rattle.step.specs.Step.{frames-for, texts-for, ready-words, RoomFor, Formed, CanStep, step-end-held, line-held, attempt-step, CanAttempt, Attempts, AttemptsQuietly, ready-state, machine-run}
-use Rattle.step.proofs.Ends.{ready-formed, end-of-reserve, end-of-check}
+use Rattle.step.proofs.Ends.{formed-now, ready-formed, end-of-reserve, end-of-check}
 use Rattle.step.proofs.Runs.{ready-is, run-ended, run-no-space, run-made}
 use Rattle.step.proofs.Known.{ended-knows}
 use Rattle.step.proofs.Laws.{attempt-ended}
@@ -96,6 +98,9 @@ module _ (p l h t : List ℕ) (i : ℕ) (out : List ℕ) (used : ℕ) (can : Can
 
   pub ready-can : CanAttempt p l h₁ t i out used
   ready-can = record { step = ready-step p l h t i (can .step) (s .end) h₁ k; inside = can .inside }
+
+  pub ready-form : MakesOrShows p i → AssignsOrShows p i
+  ready-form = left-form p l (formed-now p l h t i (can .step) .program) i (can .step .there)
 
   module _ (z : s .end ≡ 0) where
     pub ready-room : Reckons h₁ (frames-for p i) (texts-for p i) s → RoomFor p h₁ i (s .known)

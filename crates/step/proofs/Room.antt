@@ -11,7 +11,7 @@ use Rattle.heap.specs.Words.{set-end-mark}
 use Rattle.state_form.proofs.Facts.{well-formed-sized}
 use Rattle.allocation.specs.declared.Known.{Known}
 use Rattle.allocation.specs.Known.{TextsFull, Full, Knows}
-use Rattle.checking.specs.Checking.{ChecksInstruction}
+use Rattle.checking.specs.Checking.{AssignsOrShows, ChecksInstruction}
 use Rattle.reserving.specs.Reserving.{room-end-held, reserved-words, Reserves}
 use Rattle.commit.specs.Commit.{CanCommit, Commits}
 use Rattle.commit.specs.Words.{WordsFit}
@@ -53,13 +53,14 @@ module _ (p l h t : List ℕ) (i : ℕ) (can : CanStep p l h t i) (k : Known) (w
   reserves : Reserves p h (frames-for p i) (texts-for p i) 0 h
   reserves = reserves-none p h i (w .room)
 
-  pub room-checks : ChecksInstruction p l h t i
-  room-checks = ready-checks p l h t i can 0 h reserves
+  module _ (form : AssignsOrShows p i) where
+    pub room-checks : ChecksInstruction p l h t i
+    room-checks = ready-checks p l h t i can 0 h reserves form
 
-  pub room-commits : CanCommit p l h t i
-  room-commits =
-      let f = formed-now p l h t i can in
-      can-commit p l h h t i (f .program) (well-formed-sized (f .state)) (f .state .text-size) (can .there) reserves
+    pub room-commits : CanCommit p l h t i
+    room-commits =
+        let f = formed-now p l h t i can in
+        can-commit p l h h t i (f .program) (well-formed-sized (f .state)) (f .state .text-size) (can .there) form reserves
 
   module _ (e : ℕ) (ee : e ≡ end-met p l h t i) where
     pub room-ends : StepEnds p l h t i e h

@@ -8,7 +8,8 @@ ghost use Rattle.step.specs.Step.{CanReserve, RoomFor, CanStep, CanShow,
 ghost use Rattle.step.specs.Step.{frames-for, texts-for};
 ghost use Rattle.allocation.specs.Known.{Knows};
 ghost use Rattle.reserving.specs.Reserving.{Reserves, Reckons};
-ghost use Rattle.direct.specs.Direct.{joins-entry};
+ghost use Rattle.checking.specs.Checking.{AssignsOrShows};
+ghost use Rattle.direct.specs.Direct.{MakesOrShows, joins-entry};
 
 // What became of the line of an instruction: its size, where there was space for it.
 pub enum Shown {
@@ -68,7 +69,7 @@ fn show<'a>(
     Shown::Written(n)
 }
 
-// The step on instruction i after reserve, part by part: the end that it meets is marked; without space for its line nothing is done; else the line is written and the instruction committed.
+// The step on instruction i, which assigns or shows, after reserve, part by part: the end that it meets is marked; without space for its line nothing is done; else the line is written and the instruction committed.
 fn in_parts(
     p: &[u32],
     l: &[u8],
@@ -80,6 +81,7 @@ fn in_parts(
     k: Known,
 ) -> Tried
     requires { ⌜ CanAttempt (now p) (now l) (now h) (now t) i (now out) used ⌝ }
+    requires { ⌜ AssignsOrShows (now p) i ⌝ }
     requires { ⌜ RoomFor (now p) (now h) i k ⌝ }
     ensures exact { λ r. ⌜ Attempts (now (p .entry)) (now (l .entry)) (now (h .entry)) (now (t .entry)) i (now (out .entry)) used (r .outcome) (now (h .exit)) (now (t .exit)) (now (out .exit)) ⌝ }
     ensures knows { λ r. ⌜ Knows (now (h .exit)) 0 0 (r .known) ⌝ }
@@ -139,6 +141,7 @@ fn reserved(
     k: Known,
 ) -> Tried
     requires { ⌜ CanAttempt (now p) (now l) (now h) (now t) i (now out) used ⌝ }
+    requires { ⌜ MakesOrShows (now p) i ⌝ }
     requires { ⌜ Knows (now h) 0 0 k ⌝ }
     ensures exact { λ r. ⌜ Attempts (now (p .entry)) (now (l .entry)) (now (h .entry)) (now (t .entry)) i (now (out .entry)) used (r .outcome) (now (h .exit)) (now (t .exit)) (now (out .exit)) ⌝ }
     ensures knows { λ r. ⌜ Knows (now (h .exit)) 0 0 (r .known) ⌝ }

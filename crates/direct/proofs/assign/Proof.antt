@@ -1,4 +1,4 @@
-use Rattle.direct.proofs.Does.{assign-readable, assign-put-ended, assign-made, assign-ended, does-other}
+use Rattle.direct.proofs.Does.{assign-readable, assign-put-ended, assign-made, assign-ended, assign-left}
 use borrow.Author.Needs.{needs}
 use Rattle.direct.proofs.assign.Statement.{statement}
 use Rattle.direct.proofs.assign.Tie as tie
@@ -77,7 +77,7 @@ same-length-4 c = search needs
 
 -- src/lib.rt:160:1
 returns-4 : tie.Need-returns-4
-returns-4 c = search does-other
+returns-4 c = search assign-left
 
 pub assign-spec : {M : Type 1} → statement M
 assign-spec =

@@ -14,8 +14,8 @@ operand-requires : tie.Need-operand-requires
 operand-requires c κs = search needs
 
 -- src/lib.rt:251:24
-enum-known-v : tie.Need-enum-known-v
-enum-known-v c = search needs
+enum-known-test : tie.Need-enum-known-test
+enum-known-test c = search needs
 
 -- src/lib.rt:252:9
 enum-told : tie.Need-enum-told
@@ -62,7 +62,7 @@ branch-spec =
     tie.close
     (tie.spec
     operand-requires
-    enum-known-v
+    enum-known-test
     enum-told
     same-length
     returns

@@ -1,4 +1,4 @@
-use Rattle.direct.proofs.Does.{at-assignment, can-jump, at-ifeq, does-other, jump-does}
+use Rattle.direct.proofs.Does.{at-assignment, can-jump, at-ifeq, self-left, program-left, show-left, jump-does, bad-left}
 use borrow.Author.Needs.{needs}
 use Rattle.direct.proofs.direct.Statement.{statement}
 use Rattle.direct.proofs.direct.Tie as tie
@@ -64,15 +64,15 @@ enum-told-4 c = search needs
 
 -- src/lib.rt:234:1
 returns-2 : tie.Need-returns-2
-returns-2 c = search does-other
+returns-2 c = search self-left
 
 -- src/lib.rt:234:1
 returns-3 : tie.Need-returns-3
-returns-3 c = search does-other
+returns-3 c = search program-left
 
 -- src/lib.rt:234:1
 returns-4 : tie.Need-returns-4
-returns-4 c = search does-other
+returns-4 c = search show-left
 
 -- src/lib.rt:234:1
 same-length-2 : tie.Need-same-length-2
@@ -92,7 +92,7 @@ returns-6 c = search needs
 
 -- src/lib.rt:234:1
 returns-7 : tie.Need-returns-7
-returns-7 c = search does-other
+returns-7 c = search bad-left
 
 pub direct-spec : {M : Type 1} → statement M
 direct-spec =

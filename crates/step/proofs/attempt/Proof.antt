@@ -1,5 +1,5 @@
 use Rattle.step.proofs.Laws.{words-fit}
-use Rattle.step.proofs.Direct.{can-do, direct-made, made-knows-still, direct-ended, ended-knows-still, other-can, other-knows, other-attempts}
+use Rattle.step.proofs.Direct.{can-do, direct-made, made-knows-still, direct-ended, ended-knows-still, left-can, left-why, left-knows, left-attempts}
 use borrow.Author.Needs.{needs}
 use Rattle.step.proofs.attempt.Statement.{statement}
 use Rattle.step.proofs.attempt.Tie as tie
@@ -27,7 +27,7 @@ returns c = (search (direct-made, words-fit {h = c .before .before .before .dire
 
 -- src/lib.rt:186:9
 reserved-requires : tie.Need-reserved-requires
-reserved-requires c κs = (search (other-can, c .before .before .before .before .before .before .before .before .before .before .before .before .before .before .before .pre .0, c .before .before .before .before .before .before .before .before .before .before .before .before .before .before .before .pre .1, c .before .before .before .before .before .before .before .direct .ensures, c .before .before .before .if2 .taken), search other-knows)
+reserved-requires c κs = (search (left-can, c .before .before .before .before .before .before .before .before .before .before .before .before .before .before .before .pre .0, c .before .before .before .before .before .before .before .before .before .before .before .before .before .before .before .pre .1, c .before .before .before .before .before .before .before .direct .ensures, c .before .before .before .if2 .taken), (search left-why, search left-knows))
 
 -- src/lib.rt:186:9
 same-length-3 : tie.Need-same-length-3
@@ -43,7 +43,7 @@ same-length-5 c = search needs
 
 -- src/lib.rt:186:9
 returns-2 : tie.Need-returns-2
-returns-2 c = (search other-attempts, c .before .before .before .before .before .before .reserved .ensures .1)
+returns-2 c = (search left-attempts, c .before .before .before .before .before .before .reserved .ensures .1)
 
 -- src/lib.rt:188:5
 set-end-mark-requires : tie.Need-set-end-mark-requires
@@ -59,7 +59,7 @@ same-length-7 c = search needs
 
 -- src/lib.rt:163:1
 returns-3 : tie.Need-returns-3
-returns-3 c = (search (direct-ended, words-fit {h = c .before .before .set-end-mark .last .0} (c .slice-known8 .given)), search ended-knows-still)
+returns-3 c = (direct-ended _ _ _ _ _ _ _ (c .before .before .before .before .before .before .before .before .before .before .before .before .before .before .before .before .pre .0) _ (c .before .before .before .before .before .before .before .before .before .before .before .before .before .before .before .before .pre .1) _ _ (c .before .before .before .before .before .before .before .before .direct .ensures) (c .before .before .before .before .before .if1 .left) (c .before .before .before .before .if2 .left) _ (c .before .before .set-end-mark .ensures) (words-fit (c .slice-known8 .given)), ended-knows-still _ _ _ _ _ _ _ (c .before .before .before .before .before .before .before .before .before .before .before .before .before .before .before .before .pre .0) _ (c .before .before .before .before .before .before .before .before .before .before .before .before .before .before .before .before .pre .1) _ _ (c .before .before .before .before .before .before .before .before .direct .ensures) (c .before .before .before .before .before .if1 .left) (c .before .before .before .before .if2 .left) _ (c .before .before .set-end-mark .ensures))
 
 pub attempt-spec : {M : Type 1} → statement M
 attempt-spec =

@@ -56,7 +56,7 @@ same-length-5 c = search needs
 
 -- src/lib.rt:96:9
 returns-2 : tie.Need-returns-2
-returns-2 c = (parts-no-space _ _ _ _ _ _ _ (c .before .before .before .before .before .before .before .before .before .before .before .before .before .before .before .before .before .pre .0) _ (c .before .before .before .before .before .before .before .before .before .before .before .before .before .before .before .before .before .pre .1) _ (c .before .before .before .before .before .before .before .before .before .check .ensures) (c .before .before .before .before .before .before .before .before .if1 .left) _ _ (c .before .before .before .before .show .ensures) (search needs) (words-fit (c .before .before .before .before .before .before .before .before .before .before .before .before .before .before .slice-known .given)), search room-knows)
+returns-2 c = (parts-no-space _ _ _ _ _ _ _ (c .before .before .before .before .before .before .before .before .before .before .before .before .before .before .before .before .before .pre .0) _ (c .before .before .before .before .before .before .before .before .before .before .before .before .before .before .before .before .before .pre .1 .1) _ (c .before .before .before .before .before .before .before .before .before .check .ensures) (c .before .before .before .before .before .before .before .before .if1 .left) _ _ (c .before .before .before .before .show .ensures) (search needs) (words-fit (c .before .before .before .before .before .before .before .before .before .before .before .before .before .before .slice-known .given)), search room-knows)
 
 -- src/lib.rt:101:5
 commit-requires : tie.Need-commit-requires

@@ -1,7 +1,7 @@
 use mathlib.Core.Path.{_∙_, sym}
 use Rattle.step.proofs.Ends.{can-reserve}
 use Rattle.step.proofs.Laws.{words-fit}
-use Rattle.step.proofs.Ready.{ready-step, full-ended, full-knows, ready-can, ready-room, ready-attempts, ready-quietly}
+use Rattle.step.proofs.Ready.{ready-step, full-ended, full-knows, ready-can, ready-form, ready-room, ready-attempts, ready-quietly}
 use borrow.Author.Needs.{needs}
 use Rattle.step.proofs.reserved.Statement.{statement}
 use Rattle.step.proofs.reserved.Tie as tie
@@ -15,7 +15,7 @@ use Rattle.step.proofs.reserve_for.Reads as reserve-for-reads
 
 -- src/lib.rt:146:9
 reserve-for-requires : tie.Need-reserve-for-requires
-reserve-for-requires c κs = (search can-reserve, c .before .before .before .before .before .before .pre .1)
+reserve-for-requires c κs = (search can-reserve, c .before .before .before .before .before .before .pre .1 .1)
 
 -- src/lib.rt:150:9
 set-end-mark-requires : tie.Need-set-end-mark-requires
@@ -51,7 +51,7 @@ returns-2 c = (search ready-quietly, c .before .before .before .before .joined .
 
 -- src/lib.rt:159:5
 in-parts-requires : tie.Need-in-parts-requires
-in-parts-requires c κs = (search ready-can, search ready-room)
+in-parts-requires c κs = (search ready-can, (search ready-form, search ready-room))
 
 -- src/lib.rt:131:1
 same-length-4 : tie.Need-same-length-4
