@@ -92,6 +92,9 @@ module _ (s : List ℕ) (at k : ℕ) (r : TokenRead) (found : TokenAt class s at
 back : (a b : ℕ) → b ≤ a → a < b → ⊥
 back a b l h = omega arith
 
+same : (a b : ℕ) → a < b → b ≡ a → ⊥
+same a b l e = omega arith
+
 nowhere : (s : List ℕ) (at k p : ℕ) → Pass s at k p → p ≤ at → (t : Token) (ts : List Token) → Tokens⊢ class (rest s at) (t ∷ ts) → token-kind t ≡ k → ⊥
 nowhere s at k p x l t ts d e = back at p l (x .taken t ts d e .further)
 
@@ -116,33 +119,39 @@ module _ (s : List ℕ) (at j k p : ℕ) (x : Pass s at j p) where
     further-on : {ts : List Token} → Past s p ts q → Past s at ts q
     further-on z = record { further = omega (arith, z .further); reads = z .reads }
 
-    stays : p ≡ at → ⊥
-    stays e = omega arith
-
     pub two-both : p < q → PassTwo s at j k q
     two-both m = record {
       taken = λ t u ts d e f. further-on (y .taken u ts (x .taken t (u ∷ ts) d e .reads) f);
-      left = λ ts d n. absurd (stays (x .left ts d n));
+      left = λ ts d n. absurd (same at p l (x .left ts d n));
       half = λ t ts d e n. absurd (same p q m (y .left ts (x .taken t ts d e .reads) n));
       on = omega arith;
     }
-      where
-        same : (p q : ℕ) → p < q → q ≡ p → ⊥
-        same p q m e = omega arith
 
 -- ---- `frame` `:` `[`
 
 module _ (s : List ℕ) (at p : ℕ) (x : PassTwo s at 0 5 p) where
+  stayed : ((t u v : Token) (ts : List Token) → Tokens⊢ class (rest s at) (t ∷ u ∷ v ∷ ts) → token-kind t ≡ 0 → token-kind u ≡ 5 → token-kind v ≡ 12 → ⊥) → PassFrame s at at
+  stayed none = record {
+    taken = λ t u v ts d e f g. absurd (none t u v ts d e f g);
+    left = λ ts d n. refl;
+    one = λ t ts d e n. refl;
+    two = λ t u ts d e f n. refl;
+    on = omega arith;
+  }
+
   pub frame-none : p ≤ at → PassFrame s at at
-  frame-none l = record { taken = λ t u v ts d e f g. absurd (back at p l (x .taken t u (v ∷ ts) d e f .further)); on = omega arith }
+  frame-none l = stayed (λ t u v ts d e f g. back at p l (x .taken t u (v ∷ ts) d e f .further))
 
   module _ (l : at < p) (q : ℕ) (y : Pass s p 12 q) where
     pub frame-half : q ≤ p → PassFrame s at at
-    frame-half m = record { taken = λ t u v ts d e f g. absurd (nowhere s p 12 q y m v ts (x .taken t u (v ∷ ts) d e f .reads) g); on = omega arith }
+    frame-half m = stayed (λ t u v ts d e f g. nowhere s p 12 q y m v ts (x .taken t u (v ∷ ts) d e f .reads) g)
 
     pub frame-all : p < q → PassFrame s at q
     frame-all m = record {
       taken = λ t u v ts d e f g. let z = y .taken v ts (x .taken t u (v ∷ ts) d e f .reads) g in record { further = omega (arith, z .further); reads = z .reads };
+      left = λ ts d n. absurd (same at p l (x .left ts d n));
+      one = λ t ts d e n. absurd (same at p l (x .half t ts d e n));
+      two = λ t u ts d e f n. absurd (same p q m (y .left ts (x .taken t u ts d e f .reads) n));
       on = omega arith;
     }
 

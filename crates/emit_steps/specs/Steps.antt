@@ -66,7 +66,8 @@ pub record Past (s : List ℕ) (at : ℕ) (ts : List Token) (r : ℕ) : Type 0 w
   pub further : at < r
   pub reads : Tokens⊢ class (rest s r) ts
 
--- the answer is the position after a token of kind k, or the same position where another token stands
+-- The answer is the position after a token of kind k, or the same position where another token stands: of a source whose tokens can be read, as emission has
+-- it, and of any other that the answer is not before `at`.
 pub record Pass (s : List ℕ) (at k r : ℕ) : Type 0 where
   pub taken : (t : Token) (ts : List Token) → Tokens⊢ class (rest s at) (t ∷ ts) → token-kind t ≡ k → Past s at ts r
   pub left : (ts : List Token) → Tokens⊢ class (rest s at) ts → (first-kind ts ≡ k → ⊥) → r ≡ at
@@ -81,4 +82,7 @@ pub record PassTwo (s : List ℕ) (at j k r : ℕ) : Type 0 where
 -- `frame` `:` `[`
 pub record PassFrame (s : List ℕ) (at r : ℕ) : Type 0 where
   pub taken : (t u v : Token) (ts : List Token) → Tokens⊢ class (rest s at) (t ∷ u ∷ v ∷ ts) → token-kind t ≡ 0 → token-kind u ≡ 5 → token-kind v ≡ 12 → Past s at ts r
+  pub left : (ts : List Token) → Tokens⊢ class (rest s at) ts → (first-kind ts ≡ 0 → ⊥) → r ≡ at
+  pub one : (t : Token) (ts : List Token) → Tokens⊢ class (rest s at) (t ∷ ts) → token-kind t ≡ 0 → (first-kind ts ≡ 5 → ⊥) → r ≡ at
+  pub two : (t u : Token) (ts : List Token) → Tokens⊢ class (rest s at) (t ∷ u ∷ ts) → token-kind t ≡ 0 → token-kind u ≡ 5 → (first-kind ts ≡ 12 → ⊥) → r ≡ at
   pub on : at ≤ r

@@ -15,7 +15,10 @@ use Rattle.words.specs.Words.{set-word}
 use Rattle.words.proofs.Laws.{set-size}
 use Rattle.token.specs.Reading.{TokenAt}
 use Rattle.token.specs.declared.TokenRead.{TokenRead}
-use Rattle.token_cache.specs.Cache.{Cached, CanStore, NotesFrom, Unnoted}
+use Rattle.reader.specs.Position.{ReadFrom}
+use Rattle.reader.specs.declared.NextToken.{NextToken}
+use Rattle.reader.proofs.Laws.{behind-token}
+use Rattle.token_cache.specs.Cache.{Cached, CanStore, NotesFrom, Unnoted, with-entry}
 use Rattle.sweep.specs.Decides.{Short, Decides}
 use Rattle.scan.specs.Scan.{tokens-refusal, depth-after, last-refusal, NotHuge}
 use Rattle.scan.proofs.Laws.{Scanning, scan-start, scan-end, scan-four, scan-again, scan-small, scan-done}
@@ -154,10 +157,10 @@ module _ (c s b e hints : List ℕ) (n at : ℕ) (i : Naming c s b e hints n at)
           same-names : n ≤ 128 → Keeping s b e hints n p
           same-names m = keeping-again s b e hints n at (i .keeping m) r found k a p w h b e hints n (keep-other s b e hints n k a p (λ q. absurd (omega (arith, f q)))) m
 
-      after : Taken c s b e hints n at k a p c' b' e' hints' j → (n' : ℕ) → n' ≡ count-after n j → After n'
+      after : Taken c s b e hints n at k a p w c' b' e' hints' j → (n' : ℕ) → n' ≡ count-after n j → After n'
       unfolding count-after
-      after (Taken.name q l kept notes) n' en = after-name q l kept notes n' en
-      after (Taken.other f eb ee eh ej notes) n' en = after-other f eb ee eh ej notes n' (en ∙ rw (ne-eqb j n (λ z. absurd (omega (arith, ej, i .few)))))
+      after (Taken.name q l kept entry notes) n' en = after-name q l kept notes n' en
+      after (Taken.other f eb ee eh ej entry notes) n' en = after-other f eb ee eh ej notes n' (en ∙ rw (ne-eqb j n (λ z. absurd (omega (arith, ej, i .few)))))
 
 -- ---- One token is taken
 
@@ -178,15 +181,15 @@ module _ (c s b e hints : List ℕ) (n at k a p w : ℕ) (can : CanTake c s b e 
     pub take-small : j + 1 < 4294967296
     take-small = omega (arith, kept-here kept (can .begins-size) (can .ends-size) l .0)
 
-    pub taken-name : k ≡ 25 → (c' : List ℕ) → NotesFrom c c' at (j + 1) → Taken c s b e hints n at k a p c' b' e' hints' j
-    taken-name q c' notes = Taken.name q l kept notes
+    pub taken-name : k ≡ 25 → (c' : List ℕ) → c' ≡ with-entry c at 25 a p (j + 1) → NotesFrom c c' at (j + 1) → Taken c s b e hints n at k a p w c' b' e' hints' j
+    taken-name q c' entry notes = Taken.name q l kept entry notes
 
-  module _ (c' : List ℕ) (notes : NotesFrom c c' at 0) where
-    pub taken-many : 128 < n → Taken c s b e hints n at k a p c' b e hints 255
-    taken-many l = Taken.other (λ q. l) refl refl refl refl notes
+  module _ (c' : List ℕ) (entry : c' ≡ with-entry c at k a p w) (notes : NotesFrom c c' at 0) where
+    pub taken-many : 128 < n → Taken c s b e hints n at k a p w c' b e hints 255
+    taken-many l = Taken.other (λ q. l) refl refl refl refl entry notes
 
-    pub taken-other : (k ≡ 25 → ⊥) → Taken c s b e hints n at k a p c' b e hints 255
-    taken-other f = Taken.other (λ q. absurd (f q)) refl refl refl refl notes
+    pub taken-other : (k ≡ 25 → ⊥) → Taken c s b e hints n at k a p w c' b e hints 255
+    taken-other f = Taken.other (λ q. absurd (f q)) refl refl refl refl entry notes
 
 module _ (n j : ℕ) where
   pub count-next : j ≡ n → n + 1 ≡ count-after n j
@@ -203,13 +206,13 @@ found-is x n m clean t u q = ap (findings-of x n m clean) q
 
 -- ---- Everything
 
--- a token of kind k from a up to p was read at the position
-pub record Here (s : List ℕ) (at k a p : ℕ) : Type 0 where
-  value : ℕ
-  read : TokenAt class s at (TokenRead.Token k a p value)
+-- a token was read at the position, and the next position is `behind`
+pub record Here (s : List ℕ) (at k a p w behind : ℕ) : Type 0 where
+  read : TokenAt class s at (TokenRead.Token k a p w)
+  moved : behind ≡ p
 
-pub stands-here : (s : List ℕ) (at : ℕ) (r : TokenRead) → TokenAt class s at r → (k a p w : ℕ) → r ≡ TokenRead.Token k a p w → Here s at k a p
-stands-here s at r found k a p w h = record { value = w; read = subst (TokenAt class s at) h found }
+pub stands-here : (s : List ℕ) (at : ℕ) (r : NextToken) → ReadFrom s at r → (k a p w : ℕ) → r .token ≡ TokenRead.Token k a p w → Here s at k a p w (r .at)
+stands-here s at r found k a p w h = record { read = subst (TokenAt class s at) h (found .read); moved = behind-token s at r found k a p w h }
 
 -- (its fields stay here, so that a search elsewhere does not go through all of them)
 pub record Surveying (c s b e hints places counts own : List ℕ) (clean : Bool) (n m depth high : ℕ) (tally : Tally) (last at : ℕ) : Type 0 where
@@ -295,17 +298,17 @@ module _ (c s b e hints places counts own : List ℕ) (clean : Bool) (n m depth 
     survey-take = naming-take c s b e hints n at (i .naming) r found k a p w h (i .cached)
 
   -- what is kept after a token; that it was read is asked last, when the token is known
-  pub survey-again : Short s → at < length s → (c' b' e' hints' : List ℕ) (j k a p : ℕ) → Cached c' s → Taken c s b e hints n at k a p c' b' e' hints' j → (counts' own' : List ℕ) (clean' : Bool) →
+  pub survey-again : Short s → at < length s → (c' b' e' hints' : List ℕ) (j k a p w : ℕ) → Cached c' s → Taken c s b e hints n at k a p w c' b' e' hints' j → (counts' own' : List ℕ) (clean' : Bool) →
       Watches counts own clean depth last k j counts' own' clean' → (n' : ℕ) → n' ≡ count-after n j → (places' : List ℕ) (m' : ℕ) → Stored places m at k places' m' → (high' : ℕ) → high' ≡ max high depth →
-      (depth' : ℕ) → depth' ≡ depth-after depth k → (tally' : Tally) → Counts tally last k tally' → Here s at k a p → Surveying c' s b' e' hints' places' counts' own' clean' n' m' depth' high' tally' k p
-  survey-again short l c' b' e' hints' j k a p cached taken counts' own' clean' watches n' en places' m' stored high' eh depth' ed tally' counts-on here =
-      let r : TokenRead = TokenRead.Token k a p (here .value) in
-      let u = after c s b e hints n at (i .naming) r (here .read) k a p (here .value) refl c' b' e' hints' j taken n' en in
-      record {
+      (depth' : ℕ) → depth' ≡ depth-after depth k → (tally' : Tally) → Counts tally last k tally' → (at' : ℕ) → Here s at k a p w at' → Surveying c' s b' e' hints' places' counts' own' clean' n' m' depth' high' tally' k at'
+  survey-again short l c' b' e' hints' j k a p w cached taken counts' own' clean' watches n' en places' m' stored high' eh depth' ed tally' counts-on at' here =
+      let r : TokenRead = TokenRead.Token k a p w in
+      let u = after c s b e hints n at (i .naming) r (here .read) k a p w refl c' b' e' hints' j taken n' en in
+      rw (here .moved) (record {
         cached = cached;
-        scanning = scan-again class s at depth high (i .scanning) r (here .read) k a p (here .value) refl depth' high' ed eh;
-        tallying = tally-again s at tally last (i .tallying) r (here .read) k a p (here .value) refl tally' counts-on short l;
+        scanning = scan-again class s at depth high (i .scanning) r (here .read) k a p w refl depth' high' ed eh;
+        tallying = tally-again s at tally last (i .tallying) r (here .read) k a p w refl tally' counts-on short l;
         naming = u .naming;
-        placing = placing-again s places m at (i .placing) r (here .read) k a p (here .value) refl places' m' stored;
-        watching = watch-again s b e n counts own clean depth last at (i .watching) r (here .read) k a p (here .value) refl b' e' n' (u .extends) (u .naming .numbered) j (u .named) counts' own' clean' watches depth' ed;
-      }
+        placing = placing-again s places m at (i .placing) r (here .read) k a p w refl places' m' stored;
+        watching = watch-again s b e n counts own clean depth last at (i .watching) r (here .read) k a p w refl b' e' n' (u .extends) (u .naming .numbered) j (u .named) counts' own' clean' watches depth' ed;
+      })

@@ -1,4 +1,4 @@
-// One reading of a source: its tokens are kept, with a note at each name, its names and the places of its strings too; its sums are taken and its frames watched. Numbers 4 and 5.
+// One pass over a source: its tokens are kept where the cache has room, with a note at each name, its names and the places of its strings too; its sums are taken and its frames watched. Numbers 4 and 5.
 ghost use mathlib.Core.Path.{_≡_};
 ghost use lib.ListN.{length};
 ghost use Rattle.sweep.specs.Decides.{Short};
@@ -10,7 +10,7 @@ use sums::Tally;
 use sums::Totals;
 use token::TokenRead;
 
-// What is found: the number that refuses the source as tokens, or 0; how many names and strings are kept; whether no frame has a name twice or more than 16 slots, as far as that was seen; the sums.
+// What is found: the number that refuses the source as tokens, or 0; how many names and strings are kept; whether no frame has a name twice or more than 16 slots, as far as that was seen (true is certain, false decides nothing); the sums.
 pub struct Findings {
     pub refusal: u32,
     pub names: u32,
@@ -35,7 +35,7 @@ fn take(
 ) -> u32
     requires { ⌜ CanTake (now c) (now s) (now begins) (now ends) (now hints) n at k a p w ⌝ }
     ensures cached { λ _. ⌜ Cached (now (c .exit)) (now (s .entry)) ⌝ }
-    ensures taken { λ r. ⌜ Taken (now (c .entry)) (now (s .entry)) (now (begins .entry)) (now (ends .entry)) (now (hints .entry)) n at k a p (now (c .exit)) (now (begins .exit)) (now (ends .exit)) (now (hints .exit)) r ⌝ }
+    ensures taken { λ r. ⌜ Taken (now (c .entry)) (now (s .entry)) (now (begins .entry)) (now (ends .entry)) (now (hints .entry)) n at k a p w (now (c .exit)) (now (begins .exit)) (now (ends .exit)) (now (hints .exit)) r ⌝ }
 {
     if k == 25 {
         if n <= 128 {
@@ -73,7 +73,7 @@ fn found(refusal: u32, names: u32, strings: u32, clean: bool, t: Tally) -> Findi
     }
 }
 
-// Reads the source once, up to its end or to bytes that form no token. The names are kept, and the places of the first 129 strings.
+// Reads the source token by token, each from the position that the reader gave back, up to its end or to bytes that form no token. The names are kept, and the places of the first 129 strings.
 pub fn survey(
     c: &mut [u64; 16384],
     s: &[u8],
@@ -101,7 +101,9 @@ pub fn survey(
     let mut last = 0;
     let mut at = 0;
     while at < s.len() {
-        match reader::token_from(&t, s, at) {
+        let next = reader::token_from(&t, s, at);
+        let token = next.token;
+        match token {
             TokenRead::End => {
                 token_cache::store_end(c, s, at);
                 return found(scan::verdict(high, depth), n, m, clean, tally);
@@ -118,7 +120,7 @@ pub fn survey(
                 depth = scan::depth_after(depth, k);
                 tally = sums::count(tally, last, k);
                 last = k;
-                at = end;
+                at = next.at;
             }
         }
     }

@@ -12,7 +12,7 @@ use lib.ListN.{length, set, replicate, length-replicate, getD-replicate}
 use Rattle.framed.specs.Common.{if_then_else_}
 use Rattle.framed.specs.Bytes.{class}
 use Rattle.words.specs.Words.{word, set-word}
-use Rattle.words.proofs.Laws.{word-past, word-other, word-same, set-size}
+use Rattle.words.proofs.Laws.{word-past, word-other, word-same, set-size, set-past}
 use Rattle.token.specs.Reading.{TokenAt, Spot}
 use Rattle.token.specs.declared.TokenRead.{TokenRead}
 use Rattle.token.proofs.Answers.{spot-of}
@@ -183,6 +183,9 @@ module _ (c s : List ℕ) (at a p w g : ℕ) (h : CanStore c s at 25 a p w) (c' 
 
   pub name-notes : NotesFrom c c' at g
   name-notes = name-sets .notes
+
+pub end-far : (c s : List ℕ) (at : ℕ) → CanEnd c s at → 16384 ≤ at → c ≡ set-word c at 31
+end-far c s at h l = set-past c at 31 (omega (arith, h .cached .entries))
 
 pub stored-end : (c s : List ℕ) (at : ℕ) → CanEnd c s at → at < 16384 → Cached (set c at 31) s
 unfolding unpacked

@@ -47,7 +47,7 @@ pub record Packs (k a p : ℕ) : Type 0 where
 unfoldable pub with-entry : List ℕ → ℕ → ℕ → ℕ → ℕ → ℕ → List ℕ
 with-entry c at k a p x = if ltb at 16384 && (ltb p 32768 && ltb x 536870912) then set-word c at (packed k a p x) else c
 
--- each entry that is not 0 stands for what is at its position
+-- each entry that is not 0 stands for what is at its position; of a position whose entry is 0 nothing is kept
 pub record Cached (c s : List ℕ) : Type 0 where
   pub entries : length c ≡ 16384
   pub rule : (at : ℕ) → (word c at ≡ 0 → ⊥) → TokenAt class s at (unpacked (word c at))

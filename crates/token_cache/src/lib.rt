@@ -1,10 +1,11 @@
-// Tokens of a source that were read, and its end, kept by the position at which they were read, so that each is read once. A name is kept with a note.
+// Tokens of a source that were read, and its end, kept by the position at which they were read, so that later passes need not read them anew; what no entry
+// keeps is read anew. A name is kept with a note.
 ghost use mathlib.Core.Path.{_≡_};
 ghost use Prim.Native.Nat.{_/_, _%_};
 ghost use lib.Dec.{eqb};
 ghost use Rattle.framed.specs.Common.{if_then_else_};
 ghost use Rattle.framed.specs.Bytes.{class};
-ghost use Rattle.words.specs.Words.{word};
+ghost use Rattle.words.specs.Words.{word, set-word};
 ghost use Rattle.token.specs.Reading.{TokenAt};
 ghost use Rattle.token_cache.specs.Cache.{Cached, CanStore, CanEnd, Small, Packs, NotesFrom, held, packed, with-entry, note-at};
 use token::TokenRead;
@@ -95,6 +96,7 @@ fn set_entry(c: &mut [u64; 16384], at: usize, k: u32, a: usize, p: usize, x: u32
 // Keeps the token that was read at a position, without a note, where its entry has room for it.
 pub fn store(c: &mut [u64; 16384], s: &[u8], at: usize, k: u32, a: usize, p: usize, w: u32)
     requires { ⌜ CanStore (now c) (now s) at k a p w ⌝ }
+    ensures entry { λ _. ⌜ now (c .exit) ≡ with-entry (now (c .entry)) at k a p w ⌝ }
     ensures cached { λ _. ⌜ Cached (now (c .exit)) (now (s .entry)) ⌝ }
     ensures notes { λ _. ⌜ NotesFrom (now (c .entry)) (now (c .exit)) at 0 ⌝ }
 {
@@ -104,6 +106,7 @@ pub fn store(c: &mut [u64; 16384], s: &[u8], at: usize, k: u32, a: usize, p: usi
 // Keeps the name that was read at a position, with the note g, where its entry has room for them.
 pub fn store_name(c: &mut [u64; 16384], s: &[u8], at: usize, a: usize, p: usize, w: u32, g: u32)
     requires { ⌜ CanStore (now c) (now s) at 25 a p w ⌝ }
+    ensures entry { λ _. ⌜ now (c .exit) ≡ with-entry (now (c .entry)) at 25 a p g ⌝ }
     ensures cached { λ _. ⌜ Cached (now (c .exit)) (now (s .entry)) ⌝ }
     ensures notes { λ _. ⌜ NotesFrom (now (c .entry)) (now (c .exit)) at g ⌝ }
 {
@@ -113,6 +116,7 @@ pub fn store_name(c: &mut [u64; 16384], s: &[u8], at: usize, a: usize, p: usize,
 // Keeps that the source has no more tokens from a position on.
 pub fn store_end(c: &mut [u64; 16384], s: &[u8], at: usize)
     requires { ⌜ CanEnd (now c) (now s) at ⌝ }
+    ensures entry { λ _. ⌜ now (c .exit) ≡ set-word (now (c .entry)) at 31 ⌝ }
     ensures cached { λ _. ⌜ Cached (now (c .exit)) (now (s .entry)) ⌝ }
     ensures notes { λ _. ⌜ NotesFrom (now (c .entry)) (now (c .exit)) at 0 ⌝ }
 {

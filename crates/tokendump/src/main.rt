@@ -43,7 +43,9 @@ fn write_tokens(s: &[u8]) {
     let t = source::classes();
     let mut at = 0;
     while at < s.len() {
-        match reader::token_from(&t, s, at) {
+        let next = reader::token_from(&t, s, at);
+        let token = next.token;
+        match token {
             TokenRead::End => {
                 return;
             }
@@ -53,7 +55,7 @@ fn write_tokens(s: &[u8]) {
             }
             TokenRead::Token(kind, begin, end, word) => {
                 write_token(s, kind, begin, end, word);
-                at = end;
+                at = next.at;
             }
         }
     }

@@ -1,7 +1,7 @@
 use borrow.Author.Needs.{needs}
 use Prim.Native.Nat.{_-_}
 use lib.ListN.{length}
-use Rattle.token.proofs.Answers.{token-less}
+use Rattle.reader.proofs.Laws.{read-less}
 use Rattle.scan.proofs.Laws.{scan-store-end}
 use Rattle.survey.proofs.Laws.{Surveying, survey-start, survey-sizes, survey-cached, survey-few, survey-placed, survey-depth, survey-room, survey-done, survey-end, survey-none, survey-take, survey-again, stands-here}
 use Rattle.survey.proofs.survey.Statement.{statement}
@@ -103,8 +103,8 @@ returns-2 : tie.Need-returns-2 Inv-loop μ-loop
 returns-2 c = search (survey-none, needs)
 
 -- src/lib.rt:110:30
-enum-known-k : tie.Need-enum-known-k Inv-loop μ-loop
-enum-known-k c = search needs
+enum-known-token : tie.Need-enum-known-token Inv-loop μ-loop
+enum-known-token c = search needs
 
 -- src/lib.rt:111:21
 take-requires : tie.Need-take-requires Inv-loop μ-loop
@@ -136,14 +136,14 @@ count-requires c κs = survey-room _ _ _ _ _ _ _ _ _ _ _ _ _ _ _ _ (c .before .b
 
 -- src/lib.rt:101:5
 loop-less : tie.Need-loop-less Inv-loop μ-loop
-loop-less c = search (token-less, c .before .before .before .before .before .before .before .before .before .before .before .before .before .before .before .before .before .before .before .before .before .before .before .token-from .ensures, c .before .before .before .before .before .before .before .before .before .before .before .before .before .before .before .before .before .before .before .before .before .k .given, c .before .before .before .before .before .before .before .before .before .before .before .before .before .before .before .before .before .before .before .before .before .before .before .before .before .loop-test .taken)
+loop-less c = search (read-less, c .before .before .before .before .before .before .before .before .before .before .before .before .before .before .before .before .before .before .before .before .before .before .before .token-from .ensures, c .before .before .before .before .before .before .before .before .before .before .before .before .before .before .before .before .before .before .before .before .before .token .given, c .before .before .before .before .before .before .before .before .before .before .before .before .before .before .before .before .before .before .before .before .before .before .before .before .before .loop-test .taken)
 
 -- src/lib.rt:101:5
 loop-again : tie.Need-loop-again Inv-loop μ-loop
 loop-again c =
     survey-again _ _ _ _ _ _ _ _ _ _ _ _ _ _ _ _ (c .before .before .before .before .before .before .before .before .before .before .before .before .before .before .before .before .before .before .before .before .before .before .before .before .before .before .loop .inv) (search (c .before .before .before .before .before .before .before .before .before .before .before .before .before .before .before .before .before .before .before .before .before .before .before .before .before .before .before .before .before .before .before .before .before .pre .0)) (search (c .before .before .before .before .before .before .before .before .before .before .before .before .before .before .before .before .before .before .before .before .before .before .before .before .before .loop-test .taken))
-    _ _ _ _ _ _ _ _ (c .before .before .before .before .before .before .before .before .before .before .before .before .before .before .before .take .ensures .0) (c .before .before .before .before .before .before .before .before .before .before .before .before .before .before .before .take .ensures .1) _ _ _ (c .before .before .before .before .before .before .before .before .watch .ensures) _ (c .before .before .before .before .before .before .before .count-after .ensures) _ _ (c .before .before .before .before .before .keep .ensures) _ (c .before .before .larger .ensures) _ (c .before .depth-after .ensures) _ (c .count .ensures)
-    (search (stands-here, c .before .before .before .before .before .before .before .before .before .before .before .before .before .before .before .before .before .before .before .before .before .before .before .token-from .ensures, c .before .before .before .before .before .before .before .before .before .before .before .before .before .before .before .before .before .before .before .before .before .k .given, c .before .before .before .before .before .before .before .before .before .before .before .before .before .before .before .before .before .before .before .before .known-told .given))
+    _ _ _ _ _ _ _ _ _ (c .before .before .before .before .before .before .before .before .before .before .before .before .before .before .before .take .ensures .0) (c .before .before .before .before .before .before .before .before .before .before .before .before .before .before .before .take .ensures .1) _ _ _ (c .before .before .before .before .before .before .before .before .watch .ensures) _ (c .before .before .before .before .before .before .before .count-after .ensures) _ _ (c .before .before .before .before .before .keep .ensures) _ (c .before .before .larger .ensures) _ (c .before .depth-after .ensures) _ (c .count .ensures)
+    _ (search (stands-here, c .before .before .before .before .before .before .before .before .before .before .before .before .before .before .before .before .before .before .before .before .before .before .before .token-from .ensures, c .before .before .before .before .before .before .before .before .before .before .before .before .before .before .before .before .before .before .before .before .before .token .given, c .before .before .before .before .before .before .before .before .before .before .before .before .before .before .before .before .before .before .before .before .known-told .given))
 
 -- src/lib.rt:123:11
 verdict-requires-2 : tie.Need-verdict-requires-2 Inv-loop μ-loop
@@ -193,7 +193,7 @@ survey-spec =
     same-length-5
     same-length-6
     returns-2
-    enum-known-k
+    enum-known-token
     take-requires
     watch-requires
     count-after-requires

@@ -31,7 +31,7 @@ same-length-2 c = search needs
 
 -- src/lib.rt:44:13
 returns : tie.Need-returns
-returns c = (search needs, taken-name _ _ _ _ _ _ _ _ _ _ _ (c .before .before .before .before .before .before .before .before .before .before .before .before .before .before .before .pre) _ _ _ _ (search needs) (c .before .before .before .before .before .before .number .ensures) (search (c .before .before .before .before .before .before .before .before .before .before .before .if1 .taken)) _ (c .store-name .ensures .1))
+returns c = (search needs, taken-name _ _ _ _ _ _ _ _ _ _ _ (c .before .before .before .before .before .before .before .before .before .before .before .before .before .before .before .pre) _ _ _ _ (search needs) (c .before .before .before .before .before .before .number .ensures) (search (c .before .before .before .before .before .before .before .before .before .before .before .if1 .taken)) _ (c .store-name .ensures .0) (c .store-name .ensures .1 .1))
 
 -- src/lib.rt:47:5
 store-requires : tie.Need-store-requires

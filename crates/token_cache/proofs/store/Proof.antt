@@ -1,4 +1,5 @@
 use Rattle.token_cache.proofs.Laws.{store-packs, stored, stored-notes}
+use borrow.Author.Needs.{needs}
 use Rattle.token_cache.proofs.store.Statement.{statement}
 use Rattle.token_cache.proofs.store.Tie as tie
 use Rattle.token_cache.proofs.store.Reads as reads
@@ -11,7 +12,7 @@ set-entry-requires c κs = search store-packs
 
 -- src/lib.rt:96:1
 returns : tie.Need-returns
-returns c = (search stored, search stored-notes)
+returns c = (search needs, (search stored, search stored-notes))
 
 pub store-spec : {M : Type 1} → statement M
 store-spec = tie.close (tie.spec set-entry-requires returns)

@@ -1,4 +1,5 @@
 use Rattle.token_cache.proofs.Laws.{store-packs, name-stored, name-notes}
+use borrow.Author.Needs.{needs}
 use Rattle.token_cache.proofs.store_name.Statement.{statement}
 use Rattle.token_cache.proofs.store_name.Tie as tie
 use Rattle.token_cache.proofs.store_name.Reads as reads
@@ -11,7 +12,7 @@ set-entry-requires c κs = search store-packs
 
 -- src/lib.rt:105:1
 returns : tie.Need-returns
-returns c = (search name-stored, search name-notes)
+returns c = (search needs, (search name-stored, search name-notes))
 
 pub store-name-spec : {M : Type 1} → statement M
 store-name-spec = tie.close (tie.spec set-entry-requires returns)

@@ -1,7 +1,7 @@
 use Prim.Native.Nat.{_-_}
 use borrow.Author.Needs.{needs}
 use lib.ListN.{length}
-use Rattle.token.proofs.Answers.{token-less}
+use Rattle.reader.proofs.Laws.{read-less}
 use Rattle.tokendump.proofs.write_tokens.Statement.{statement}
 use Rattle.tokendump.proofs.write_tokens.Tie as tie
 
@@ -15,7 +15,7 @@ loop-holds : tie.Need-loop-holds Inv-loop μ-loop
 loop-holds c = tt
 
 loop-less : tie.Need-loop-less Inv-loop μ-loop
-loop-less c = search token-less
+loop-less c = search read-less
 
 loop-again : tie.Need-loop-again Inv-loop μ-loop
 loop-again c = tt
