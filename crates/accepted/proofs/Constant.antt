@@ -10,7 +10,8 @@ use Rattle.framed.specs.Paths.{outside-code, within-slot, resolve-base, resolve
 use Rattle.framed.specs.Meaning.{base-pieces, expression-pieces, slots-pieces, pieces, outside, misplaced, frame-outside}
 use Rattle.framed.specs.Machine.{frame-literals, frame-literals-in}
 use Rattle.framed.specs.Program.{Program, program-of}
-use Rattle.shapes.proofs.Lists.{none-append, count-append}
+use Rattle.framed.proofs.General.{none-append}
+use Rattle.framed.proofs.Lists.{count-append}
 use Rattle.accepted.specs.Constant.{Constant, ConstantExpression, ConstantSlots, WrittenFits, AcceptedWritten}
 
 base-constant : (b : Base Written) (ns : List ℕ) → any misplaced (base-pieces (outside-code ns) b) ≡ false → Constant (resolve-base (outside-code ns) b)

@@ -13,13 +13,14 @@ use Rattle.framed.specs.Machine.{State, step, marked, frame-literals, join-sign
 use Rattle.framed.specs.Answers.{Stopped, Report}
 use Rattle.framed.specs.Calls.{Unbounded, advanced, ended, attempted, Position, at-end, before, position-in, position, Call, run-call, collect-call}
 use Rattle.framed.specs.Calls as C
+use Rattle.framed.proofs.Runs.{run-at-end, run-unfuelled, run-ends, run-output, run-steps, before-is}
 use Rattle.bounded.specs.Views.{entries}
 use Rattle.bounded.specs.Fits.{CodeFits, ProgramFits}
 use Rattle.bounded.specs.Store.{Store, Laws}
 use Rattle.bounded.specs.Bounded.{Bounded, with-mark, state-of, reserved, line, commit, ready, step-end, Ran, stopped, one-more, run, collected, Session, first-report, calls}
 use Rattle.bounded.specs.Relation.{Related}
 use Rattle.bounded.specs.Theorems.{place, RunWays, SameRun, SameSession}
-use Rattle.bounded.proofs.UnboundedRuns.{run-at-end, run-unfuelled, run-ends, run-output, run-steps, before-is, step-ends}
+use Rattle.bounded.proofs.UnboundedRuns.{step-ends}
 use Rattle.bounded.proofs.Collect.{counts-frames, counts-texts, collected-related}
 use Rattle.bounded.proofs.Step.{Commits, Performs, Steps, step-out}
 
@@ -135,7 +136,7 @@ module _ {S : Type 0} (𝓞 : Store S) (p : Program) (F T : ℕ) where
     -- what the next instruction and the rest fit
     next-fits : (b : Bounded S) (s : State) (i : Instruction Path) (rest : Code Path) → Rel b s → at b ≡ before i rest → CodeFits p (i then rest)
     unfolding position
-    next-fits b s i rest A q = subst (CodeFits p) (before-is p F T (state-of 𝓞 b) i rest q .1) (A .well-formed .remaining)
+    next-fits b s i rest A q = subst (CodeFits p) (before-is (state-of 𝓞 b) i rest q .1) (A .well-formed .remaining)
 
     pub run-same : (fuel space : ℕ) (b : Bounded S) (u : Unbounded) → Rel b (u .state) → Same (run 𝓞 p F T fuel space b) (C.run p F T fuel space u)
     unfolding lined advanced ended attempted

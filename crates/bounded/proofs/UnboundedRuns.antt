@@ -9,7 +9,7 @@ use native.Mathlib.Omega.{arith}
 use lib.IntN.{ℤ, pos, negsuc}
 use lib.ListN.{length, length-append, getElem?}
 use lib.Dec.{leb, ltb}
-use borrow.Author.Tests.{leb-true, le-leb, ltb-true, ltb-false}
+use borrow.Author.Tests.{leb-true, le-leb}
 use Rattle.framed.specs.declared.Value.{Value}
 use Rattle.framed.specs.Common.{if_then_else_}
 use Rattle.framed.specs.Tokens.{Operator, in-range}
@@ -18,16 +18,14 @@ use Rattle.framed.specs.Paths.{Path, from-self, from-program}
 use Rattle.framed.specs.Program.{Program}
 use Rattle.framed.specs.Values.{Frame, Heap, truth, joined}
 use Rattle.framed.specs.Fetch.{fetch, get}
-use Rattle.framed.specs.Reach.{roots, reached-frames, texts-from}
-use Rattle.framed.specs.Machine.{State, Effect, Result, gives, ends, defined, base-value, integer-in, integer-result, quotient, new-text, operate, evaluate, fill, frame-number, holds, put-slot, put, assign-to, code-of, jump-to, perform, reserve-for, reserve, step, after-step, marked, right-side, frame-literals}
+use Rattle.framed.specs.Machine.{State, Effect, Result, gives, ends, defined, base-value, integer-in, integer-result, quotient, new-text, operate, evaluate, fill, frame-number, holds, put-slot, put, assign-to, code-of, jump-to, perform, step, after-step, marked, right-side, frame-literals}
 use Rattle.framed.specs.Machine as M
 use Rattle.framed.specs.Answers.{Stopped}
-use Rattle.framed.specs.Calls.{Unbounded, at-start, advanced, ended, attempted, Position, at-end, before, position-in, position, Ran, stopped, one-more, run, frame-total, Call, run-call, collect-call, first-report, calls}
+use Rattle.framed.specs.Calls.{Unbounded, at-start, advanced, ended, attempted, Position, at-end, before, position, Ran, stopped, one-more, run, frame-total, Call, run-call, collect-call, first-report, calls}
 use Rattle.framed.specs.Demands.{NextEnds, gives-end, steps-in, bytes-in}
+use Rattle.framed.proofs.StepJudged.{ends-inj}
+use Rattle.framed.proofs.Runs.{by-reserve, step-is, Room, room, no-frames, no-texts, reserve-room, end≢fuel, output≢fuel, fuel≢end, output≢end, end-inj, before-is, before-at, run-at-end, run-unfuelled, run-ends, run-output, run-steps, run-induction}
 use Rattle.bounded.specs.UnboundedRuns.{followed-by, UnboundedRuns, UnboundedCalls}
-
-ends-inj : {A : Type 0} {a b : ℕ} → _≡_ {A = Result A} (ends a) (ends b) → a ≡ b
-ends-inj e = cc
 
 -- ---- Which numbers end a step
 
@@ -164,142 +162,16 @@ rule-ends : (p : Program) (s : State) (i : Instruction Path) (rest : Code Path) 
     perform p (s .self) (s .program) (s .heap) rest i ≡ ends e → (31 ≤ e) × (e ≤ 35)
 rule-ends p s i rest e q = subst Within q (perform-within p (s .self) (s .program) (s .heap) rest i)
 
--- ---- What a step with or without room gives
-
-by-reserve : ℕ → Result Effect → Result Effect
-by-reserve r q = elim r [ zero ↦ q | suc n ↦ ends (suc n) ]
-
-step-is : (p : Program) (F T : ℕ) (s : State) (i : Instruction Path) (rest : Code Path) →
-    step p F T s i rest ≡ by-reserve (reserve F T (s .heap .frames) (s .self) (s .program) i) (perform p (s .self) (s .program) (s .heap) rest i)
-unfolding step by-reserve
-step-is p F T s i rest = refl
-
--- reserve gives 0, 36 or 37, and 36 exactly where the frames do not fit
-data Room (F : ℕ) (n : ℕ) : ℕ → Type 0 where
-  room : n ≤ F → Room F n 0
-  no-frames : F < n → Room F n 36
-  no-texts : n ≤ F → Room F n 37
-
-room-of : (F T f t : ℕ) (frames : List Frame) (rs : List Value) (ns : List ℕ) → Room F (length ns + f) (reserve-for F T f t frames rs ns)
-unfolding reserve-for
-room-of F T f t frames rs ns = go (ltb F (length ns + f)) (ltb T (length (texts-from frames rs ns) + t)) refl
-  where
-    go : (a b : Bool) → ltb F (length ns + f) ≡ a → Room F (length ns + f) (elim a [ true ↦ 36 | false ↦ elim b [ true ↦ 37 | false ↦ 0 ] ])
-    go true b e = no-frames (ltb-true F (length ns + f) e)
-    go false true e = no-texts (ltb-false F (length ns + f) e)
-    go false false e = room (ltb-false F (length ns + f) e)
-
-reserve-room : (F T : ℕ) (s : State) (i : Instruction Path) →
-    Room F (frame-total s + frame-literals (right-side i)) (reserve F T (s .heap .frames) (s .self) (s .program) i)
-unfolding reserve frame-total
-reserve-room F T s i = room-of F T _ _ (s .heap .frames) (roots (s .self) (s .program)) (reached-frames (s .heap .frames) (roots (s .self) (s .program)))
-
 pub step-ends : (p : Program) (F T : ℕ) (s : State) (i : Instruction Path) (rest : Code Path) (e : ℕ) → step p F T s i rest ≡ ends e → (31 ≤ e) × (e ≤ 37)
 unfolding by-reserve
 step-ends p F T s i rest e q = go (reserve-room F T s i) (sym (step-is p F T s i rest) ∙ q)
   where
-    go : {n r : ℕ} → Room F n r → by-reserve r (perform p (s .self) (s .program) (s .heap) rest i) ≡ ends e → (31 ≤ e) × (e ≤ 37)
-    go (room h) q = let w = rule-ends p s i rest e q in let a = w .0 in let b = w .1 in (omega arith, omega arith)
+    go : {n k r : ℕ} → Room F T n k r → by-reserve r (perform p (s .self) (s .program) (s .heap) rest i) ≡ ends e → (31 ≤ e) × (e ≤ 37)
+    go (room h g) q = let w = rule-ends p s i rest e q in let a = w .0 in let b = w .1 in (omega arith, omega arith)
     go (no-frames h) q = let a = ends-inj q in (omega arith, omega arith)
-    go (no-texts h) q = let a = ends-inj q in (omega arith, omega arith)
-
--- ---- A run, by cases
+    go (no-texts h g) q = let a = ends-inj q in (omega arith, omega arith)
 
 module _ (p : Program) (F T : ℕ) where
-  -- what follows a step that gives an effect; what follows a result; what a run does at a position
-  goes : (fuel space : ℕ) → Unbounded → Effect → Bool → Ran
-  goes fuel space u x t =
-      elim t [
-        | false ↦ stopped Stopped.output (attempted u)
-        | true ↦ one-more (x .line) (run p F T fuel (space - length (x .line)) (advanced u x))
-      ]
-
-  results : (fuel space : ℕ) → Unbounded → Result Effect → Ran
-  results fuel space u r = elim r [ ends e ↦ stopped (Stopped.end e) (ended e u) | gives x ↦ goes fuel space u x (leb (length (x .line)) space) ]
-
-  positioned : (fuel space : ℕ) → Unbounded → Position → Ran
-  positioned fuel space u q = elim q [ at-end e ↦ stopped (Stopped.end e) u | before i rest ↦ results fuel space u (step p F T (u .state) i rest) ]
-
-  unfuelled : Unbounded → Position → Ran
-  unfuelled u q = elim q [ at-end e ↦ stopped (Stopped.end e) u | before i rest ↦ stopped Stopped.fuel u ]
-
-  run-suc : (fuel space : ℕ) (u : Unbounded) → run p F T (suc fuel) space u ≡ positioned fuel space u (position (u .state))
-  unfolding run positioned results goes
-  run-suc fuel space u = refl
-
-  run-zero : (space : ℕ) (u : Unbounded) → run p F T zero space u ≡ unfuelled u (position (u .state))
-  unfolding run unfuelled
-  run-zero space u = refl
-
-  -- the five ways of a run
-  pub run-at-end : (fuel space : ℕ) (u : Unbounded) (e : ℕ) → position (u .state) ≡ at-end e → run p F T fuel space u ≡ stopped (Stopped.end e) u
-  unfolding positioned unfuelled
-  run-at-end zero space u e q = run-zero space u ∙ ap (unfuelled u) q
-  run-at-end (suc fuel) space u e q = run-suc fuel space u ∙ ap (positioned fuel space u) q
-
-  pub run-unfuelled : (space : ℕ) (u : Unbounded) (i : Instruction Path) (rest : Code Path) → position (u .state) ≡ before i rest →
-      run p F T zero space u ≡ stopped Stopped.fuel u
-  unfolding unfuelled
-  run-unfuelled space u i rest q = run-zero space u ∙ ap (unfuelled u) q
-
-  pub run-ends : (fuel space : ℕ) (u : Unbounded) (i : Instruction Path) (rest : Code Path) (e : ℕ) → position (u .state) ≡ before i rest →
-      step p F T (u .state) i rest ≡ ends e → run p F T (suc fuel) space u ≡ stopped (Stopped.end e) (ended e u)
-  unfolding positioned results
-  run-ends fuel space u i rest e q r = run-suc fuel space u ∙ ap (positioned fuel space u) q ∙ ap (results fuel space u) r
-
-  run-goes : (fuel space : ℕ) (u : Unbounded) (i : Instruction Path) (rest : Code Path) (x : Effect) (t : Bool) → position (u .state) ≡ before i rest →
-      step p F T (u .state) i rest ≡ gives x → leb (length (x .line)) space ≡ t → run p F T (suc fuel) space u ≡ goes fuel space u x t
-  unfolding positioned results
-  run-goes fuel space u i rest x t q r l =
-      run-suc fuel space u ∙ ap (positioned fuel space u) q ∙ ap (results fuel space u) r ∙ ap (goes fuel space u x) l
-
-  pub run-output : (fuel space : ℕ) (u : Unbounded) (i : Instruction Path) (rest : Code Path) (x : Effect) → position (u .state) ≡ before i rest →
-      step p F T (u .state) i rest ≡ gives x → leb (length (x .line)) space ≡ false → run p F T (suc fuel) space u ≡ stopped Stopped.output (attempted u)
-  unfolding goes
-  run-output fuel space u i rest x q r l = run-goes fuel space u i rest x false q r l
-
-  pub run-steps : (fuel space : ℕ) (u : Unbounded) (i : Instruction Path) (rest : Code Path) (x : Effect) → position (u .state) ≡ before i rest →
-      step p F T (u .state) i rest ≡ gives x → leb (length (x .line)) space ≡ true →
-      run p F T (suc fuel) space u ≡ one-more (x .line) (run p F T fuel (space - length (x .line)) (advanced u x))
-  unfolding goes
-  run-steps fuel space u i rest x q r l = run-goes fuel space u i rest x true q r l
-
-  -- induction along a run: a claim about the fuel, the space, the machine, and what the run gives
-  module _ (P : ℕ → ℕ → Unbounded → Ran → Type 0)
-      (ended-before : (fuel space : ℕ) (u : Unbounded) (e : ℕ) → position (u .state) ≡ at-end e → P fuel space u (stopped (Stopped.end e) u))
-      (out-of-fuel : (space : ℕ) (u : Unbounded) (i : Instruction Path) (rest : Code Path) → position (u .state) ≡ before i rest → P zero space u (stopped Stopped.fuel u))
-      (ends-now : (fuel space : ℕ) (u : Unbounded) (i : Instruction Path) (rest : Code Path) (e : ℕ) → position (u .state) ≡ before i rest →
-      step p F T (u .state) i rest ≡ ends e → P (suc fuel) space u (stopped (Stopped.end e) (ended e u)))
-      (no-space : (fuel space : ℕ) (u : Unbounded) (i : Instruction Path) (rest : Code Path) (x : Effect) → position (u .state) ≡ before i rest →
-      step p F T (u .state) i rest ≡ gives x → leb (length (x .line)) space ≡ false → P (suc fuel) space u (stopped Stopped.output (attempted u)))
-      (steps-on : (fuel space : ℕ) (u : Unbounded) (i : Instruction Path) (rest : Code Path) (x : Effect) → position (u .state) ≡ before i rest →
-      step p F T (u .state) i rest ≡ gives x → leb (length (x .line)) space ≡ true → (r : Ran) → P fuel (space - length (x .line)) (advanced u x) r →
-      P (suc fuel) space u (one-more (x .line) r)) where
-    run-induction : (fuel space : ℕ) (u : Unbounded) → P fuel space u (run p F T fuel space u)
-    run-induction zero space u = go (position (u .state)) refl
-      where
-        go : (q : Position) → position (u .state) ≡ q → P zero space u (run p F T zero space u)
-        go (at-end e) q = subst (P zero space u) (sym (run-at-end zero space u e q)) (ended-before zero space u e q)
-        go (before i rest) q = subst (P zero space u) (sym (run-unfuelled space u i rest q)) (out-of-fuel space u i rest q)
-    run-induction (suc fuel) space u = go (position (u .state)) refl (λ space v. run-induction fuel space v)
-      where
-        Goal : Type 0
-        Goal = P (suc fuel) space u (run p F T (suc fuel) space u)
-
-        lined : (i : Instruction Path) (rest : Code Path) (x : Effect) (t : Bool) → position (u .state) ≡ before i rest → step p F T (u .state) i rest ≡ gives x →
-            leb (length (x .line)) space ≡ t → ((space : ℕ) (v : Unbounded) → P fuel space v (run p F T fuel space v)) → Goal
-        lined i rest x false q r l k = subst (P (suc fuel) space u) (sym (run-output fuel space u i rest x q r l)) (no-space fuel space u i rest x q r l)
-        lined i rest x true q r l k = subst (P (suc fuel) space u) (sym (run-steps fuel space u i rest x q r l)) (steps-on fuel space u i rest x q r l _ (k _ _))
-
-        given : (i : Instruction Path) (rest : Code Path) (o : Result Effect) → position (u .state) ≡ before i rest → step p F T (u .state) i rest ≡ o →
-            ((space : ℕ) (v : Unbounded) → P fuel space v (run p F T fuel space v)) → Goal
-        given i rest (ends e) q r k = subst (P (suc fuel) space u) (sym (run-ends fuel space u i rest e q r)) (ends-now fuel space u i rest e q r)
-        given i rest (gives x) q r k = lined i rest x (leb (length (x .line)) space) q r refl k
-
-        go : (q : Position) → position (u .state) ≡ q → ((space : ℕ) (v : Unbounded) → P fuel space v (run p F T fuel space v)) → Goal
-        go (at-end e) q k = subst (P (suc fuel) space u) (sym (run-at-end (suc fuel) space u e q)) (ended-before (suc fuel) space u e q)
-        go (before i rest) q k = given i rest (step p F T (u .state) i rest) q refl k
-
   -- ---- Within the fuel and the space
 
   abbrev Fitting : ℕ → ℕ → Ran → Type 0
@@ -308,7 +180,7 @@ module _ (p : Program) (F T : ℕ) where
   within : (fuel space : ℕ) (u : Unbounded) → Fitting fuel space (run p F T fuel space u)
   unfolding one-more
   within =
-      run-induction (λ fuel space u r. Fitting fuel space r)
+      run-induction p F T (λ fuel space u r. Fitting fuel space r)
       (λ fuel space u e q. (omega arith, omega arith))
       (λ space u i rest q. (omega arith, omega arith))
       (λ fuel space u i rest e q r. (omega arith, omega arith))
@@ -320,22 +192,10 @@ module _ (p : Program) (F T : ℕ) where
 
   -- ---- Fuel spent
 
-  end≢fuel : {e : ℕ} → Stopped.end e ≡ Stopped.fuel → ⊥
-  end≢fuel q = let z : _≡_ {A = ℕ} 0 1 = cc in omega arith
-
-  output≢fuel : Stopped.output ≡ Stopped.fuel → ⊥
-  output≢fuel q = let z : _≡_ {A = ℕ} 0 1 = cc in omega arith
-
-  fuel≢end : {e : ℕ} → Stopped.fuel ≡ Stopped.end e → ⊥
-  fuel≢end q = let z : _≡_ {A = ℕ} 0 1 = cc in omega arith
-
-  output≢end : {e : ℕ} → Stopped.output ≡ Stopped.end e → ⊥
-  output≢end q = let z : _≡_ {A = ℕ} 0 1 = cc in omega arith
-
   fuel-spent : (fuel space : ℕ) (u : Unbounded) → run p F T fuel space u .stop ≡ Stopped.fuel → run p F T fuel space u .steps ≡ fuel
   unfolding one-more
   fuel-spent =
-      run-induction (λ fuel space u r. r .stop ≡ Stopped.fuel → r .steps ≡ fuel)
+      run-induction p F T (λ fuel space u r. r .stop ≡ Stopped.fuel → r .steps ≡ fuel)
       (λ fuel space u e q s. absurd (end≢fuel s))
       (λ space u i rest q s. refl)
       (λ fuel space u i rest e q r s. absurd (end≢fuel s))
@@ -347,7 +207,7 @@ module _ (p : Program) (F T : ℕ) where
       (i : Instruction Path) × (rest : Code Path) × (position (run p F T fuel space u .machine .state) ≡ before i rest)
   unfolding one-more
   fuel-before =
-      run-induction (λ fuel space u r. r .stop ≡ Stopped.fuel → (i : Instruction Path) × (rest : Code Path) × (position (r .machine .state) ≡ before i rest))
+      run-induction p F T (λ fuel space u r. r .stop ≡ Stopped.fuel → (i : Instruction Path) × (rest : Code Path) × (position (r .machine .state) ≡ before i rest))
       (λ fuel space u e q s. absurd (end≢fuel s))
       (λ space u i rest q s. (i, rest, q))
       (λ fuel space u i rest e q r s. absurd (end≢fuel s))
@@ -373,7 +233,7 @@ module _ (p : Program) (F T : ℕ) where
       run p F T (k + j) space u ≡ followed-by (run p F T k space u) (run p F T j (space - length (run p F T k space u .bytes)) (run p F T k space u .machine))
   unfolding one-more
   goes-on k j =
-      (λ space u. run-induction
+      (λ space u. run-induction p F T
       (λ k space u r. r .stop ≡ Stopped.fuel → run p F T (k + j) space u ≡ followed-by r (run p F T j (space - length (r .bytes)) (r .machine)))
       (λ fuel space u e q s. absurd (end≢fuel s))
       (λ space u i rest q s.
@@ -383,7 +243,7 @@ module _ (p : Program) (F T : ℕ) where
       (λ fuel space u i rest x q r l s. absurd (output≢fuel s))
       (λ fuel space u i rest x q r l y h s.
       ap (λ (n : ℕ). run p F T n space u) (let e : suc fuel + j ≡ suc (fuel + j) = omega arith in e)
-      ∙ run-steps (fuel + j) space u i rest x q r l
+      ∙ run-steps p F T (fuel + j) space u i rest x q r l
       ∙ ap (one-more (x .line)) (h s)
       ∙ followed-more (x .line) y _
       ∙ ap (λ (n : ℕ). followed-by (one-more (x .line) y) (run p F T j n (y .machine)))
@@ -397,41 +257,21 @@ module _ (p : Program) (F T : ℕ) where
       × (run p F T (run p F T fuel space u .steps) space u .bytes ≡ run p F T fuel space u .bytes)
   unfolding one-more
   keeps-shows fuel space u e =
-      run-induction
+      run-induction p F T
       (λ fuel space u r. r .stop ≡ Stopped.end e → (run p F T (r .steps) space u .steps ≡ r .steps) × (run p F T (r .steps) space u .bytes ≡ r .bytes))
-      (λ fuel space u e q s. (ap (λ (r : Ran). r .steps) (run-at-end zero space u e q), ap (λ (r : Ran). r .bytes) (run-at-end zero space u e q)))
+      (λ fuel space u e q s. (ap (λ (r : Ran). r .steps) (run-at-end p F T zero space u e q), ap (λ (r : Ran). r .bytes) (run-at-end p F T zero space u e q)))
       (λ space u i rest q s. absurd (fuel≢end s))
-      (λ fuel space u i rest e q r s. (ap (λ (r : Ran). r .steps) (run-unfuelled space u i rest q), ap (λ (r : Ran). r .bytes) (run-unfuelled space u i rest q)))
+      (λ fuel space u i rest e q r s. (ap (λ (r : Ran). r .steps) (run-unfuelled p F T space u i rest q), ap (λ (r : Ran). r .bytes) (run-unfuelled p F T space u i rest q)))
       (λ fuel space u i rest x q r l s. absurd (output≢end s))
       (λ fuel space u i rest x q r l y h s.
-      let g = run-steps (y .steps) space u i rest x q r l in
+      let g = run-steps p F T (y .steps) space u i rest x q r l in
       (ap (λ (r : Ran). r .steps) g ∙ ap suc (h s .0), ap (λ (r : Ran). r .bytes) g ∙ ap (λ (bs : List ℕ). x .line ++ bs) (h s .1)))
       fuel space u
 
   -- ---- 36 exactly where the frames do not fit
 
-  before-inj : {i j : Instruction Path} {rest more : Code Path} → before i rest ≡ before j more → (i ≡ j) × (rest ≡ more)
-  before-inj e = (cc, cc)
-
   then-inj : {i j : Instruction Path} {rest more : Code Path} → _≡_ {A = Code Path} (i then rest) (j then more) → (i ≡ j) × (rest ≡ more)
   then-inj e = (cc, cc)
-
-  end-inj : {d e : ℕ} → Stopped.end d ≡ Stopped.end e → d ≡ e
-  end-inj e = cc
-
-  -- an instruction comes next: there is no end mark, and it is the first of the list
-  pub before-is : (s : State) (i : Instruction Path) (rest : Code Path) → position s ≡ before i rest → (s .end-mark ≡ 0) × (s .remaining ≡ (i then rest))
-  unfolding position position-in
-  before-is s i rest q = go (s .end-mark) (s .remaining) refl refl q
-    where
-      go : (e : ℕ) (is : Code Path) → s .end-mark ≡ e → s .remaining ≡ is → position-in e is ≡ before i rest → (s .end-mark ≡ 0) × (s .remaining ≡ (i then rest))
-      go zero Code.finished a b q = absurd (let z : _≡_ {A = ℕ} 0 1 = cc in omega arith)
-      go zero (j then more) a b q = let c = before-inj q in (a, b ∙ ap₂ (λ (j : Instruction Path) (more : Code Path). j then more) (c .0) (c .1))
-      go (suc e) is a b q = absurd (let z : _≡_ {A = ℕ} 0 1 = cc in omega arith)
-
-  before-at : (s : State) (i : Instruction Path) (rest : Code Path) → s .end-mark ≡ 0 → s .remaining ≡ (i then rest) → position s ≡ before i rest
-  unfolding position position-in
-  before-at s i rest m c = ap₂ position-in m c
 
   -- it ends at once with e exactly when the step gives that end
   ends-at-once : (fuel space : ℕ) (u : Unbounded) (i : Instruction Path) (rest : Code Path) (e : ℕ) → position (u .state) ≡ before i rest →
@@ -439,36 +279,35 @@ module _ (p : Program) (F T : ℕ) where
   unfolding one-more
   ends-at-once fuel space u i rest e q = (
     (λ h. step-is-end (step p F T (u .state) i rest) refl h),
-    (λ g. (ap (λ (r : Ran). r .stop) (run-ends fuel space u i rest e q g), ap (λ (r : Ran). r .steps) (run-ends fuel space u i rest e q g))),
+    (λ g. (ap (λ (r : Ran). r .stop) (run-ends p F T fuel space u i rest e q g), ap (λ (r : Ran). r .steps) (run-ends p F T fuel space u i rest e q g))),
   )
     where
       r : Ran
       r = run p F T (suc fuel) space u
 
       not-now : (x : Effect) (t : Bool) → step p F T (u .state) i rest ≡ gives x → leb (length (x .line)) space ≡ t → (r .stop ≡ Stopped.end e) × (r .steps ≡ 0) → ⊥
-      not-now x false g l h = output≢end (sym (ap (λ (r : Ran). r .stop) (run-output fuel space u i rest x q g l)) ∙ h .0)
+      not-now x false g l h = output≢end (sym (ap (λ (r : Ran). r .stop) (run-output p F T fuel space u i rest x q g l)) ∙ h .0)
       not-now x true g l h =
-          let z : suc (run p F T fuel (space - length (x .line)) (advanced u x) .steps) ≡ 0 = sym (ap (λ (r : Ran). r .steps) (run-steps fuel space u i rest x q g l)) ∙ h .1 in
+          let z : suc (run p F T fuel (space - length (x .line)) (advanced u x) .steps) ≡ 0 = sym (ap (λ (r : Ran). r .steps) (run-steps p F T fuel space u i rest x q g l)) ∙ h .1 in
           omega arith
 
       step-is-end : (o : Result Effect) → step p F T (u .state) i rest ≡ o → (r .stop ≡ Stopped.end e) × (r .steps ≡ 0) → step p F T (u .state) i rest ≡ ends e
-      step-is-end (ends d) g h = g ∙ ap ends (end-inj (sym (ap (λ (r : Ran). r .stop) (run-ends fuel space u i rest d q g)) ∙ h .0))
+      step-is-end (ends d) g h = g ∙ ap ends (end-inj (sym (ap (λ (r : Ran). r .stop) (run-ends p F T fuel space u i rest d q g)) ∙ h .0))
       step-is-end (gives x) g h = absurd (not-now x (leb (length (x .line)) space) g refl h)
 
   no-fuel : (space : ℕ) (u : Unbounded) → (run p F T zero space u .steps ≡ 0) × (run p F T zero space u .bytes ≡ []) × (run p F T zero space u .machine ≡ u)
-  unfolding unfuelled
-  no-fuel space u = rw (run-zero space u) (go (position (u .state)))
+  no-fuel space u = go (position (u .state)) refl
     where
-      go : (q : Position) → (unfuelled u q .steps ≡ 0) × (unfuelled u q .bytes ≡ []) × (unfuelled u q .machine ≡ u)
-      go (at-end e) = (refl, refl, refl)
-      go (before i rest) = (refl, refl, refl)
+      go : (q : Position) → position (u .state) ≡ q → (run p F T zero space u .steps ≡ 0) × (run p F T zero space u .bytes ≡ []) × (run p F T zero space u .machine ≡ u)
+      go (at-end e) q = rw (run-at-end p F T zero space u e q) (refl, refl, refl)
+      go (before i rest) q = rw (run-unfuelled p F T space u i rest q) (refl, refl, refl)
 
   makes-step : (space : ℕ) (u : Unbounded) (i : Instruction Path) (rest : Code Path) (x : Effect) → position (u .state) ≡ before i rest →
       step p F T (u .state) i rest ≡ gives x → length (x .line) ≤ space →
       (run p F T 1 space u .steps ≡ 1) × (run p F T 1 space u .bytes ≡ x .line) × (run p F T 1 space u .machine ≡ advanced u x)
   unfolding one-more
   makes-step space u i rest x q g l =
-      let r = run-steps 0 space u i rest x q g (le-leb (length (x .line)) space l) in
+      let r = run-steps p F T 0 space u i rest x q g (le-leb (length (x .line)) space l) in
       let n = no-fuel (space - length (x .line)) (advanced u x) in
       (ap (λ (r : Ran). r .steps) r ∙ ap suc (n .0), ap (λ (r : Ran). r .bytes) r ∙ ap (λ (bs : List ℕ). x .line ++ bs) (n .1) ∙ append-nil (x .line), ap (λ (r : Ran). r .machine) r ∙ n .2)
 
@@ -480,12 +319,12 @@ module _ (p : Program) (F T : ℕ) where
       n : ℕ
       n = frame-total s + frame-literals (right-side i)
 
-      go : {a b : ℕ} → Room F a b → a ≡ n → step p F T s i rest ≡ by-reserve b (perform p (s .self) (s .program) (s .heap) rest i) →
+      go : {a c b : ℕ} → Room F T a c b → a ≡ n → step p F T s i rest ≡ by-reserve b (perform p (s .self) (s .program) (s .heap) rest i) →
           (step p F T s i rest ≡ ends 36) ↔ (F < n)
-      go (room l) e g =
+      go (room l k) e g =
           ((λ h. absurd (let w = rule-ends p s i rest 36 (sym g ∙ h) in let c = w .1 in let z : ⊥ = omega arith in z)), (λ h. absurd (let z : ⊥ = omega arith in z)))
       go (no-frames l) e g = ((λ h. omega arith), (λ h. g))
-      go (no-texts l) e g = ((λ h. absurd (let c = ends-inj (sym g ∙ h) in let z : ⊥ = omega arith in z)), (λ h. absurd (let z : ⊥ = omega arith in z)))
+      go (no-texts l k) e g = ((λ h. absurd (let c = ends-inj (sym g ∙ h) in let z : ⊥ = omega arith in z)), (λ h. absurd (let z : ⊥ = omega arith in z)))
 
   frames-full : (fuel k space : ℕ) (u : Unbounded) (i : Instruction Path) (rest : Code Path) → k < fuel →
       run p F T k space u .stop ≡ Stopped.fuel → run p F T k space u .machine .state .remaining ≡ (i then rest) →
@@ -533,7 +372,7 @@ module _ (p : Program) (F T : ℕ) where
   made-more : (fuel space : ℕ) (u : Unbounded) → run p F T fuel space u .steps + u .made ≡ run p F T fuel space u .machine .made
   unfolding one-more advanced ended attempted
   made-more =
-      run-induction (λ fuel space u r. r .steps + u .made ≡ r .machine .made)
+      run-induction p F T (λ fuel space u r. r .steps + u .made ≡ r .machine .made)
       (λ fuel space u e q. omega arith)
       (λ space u i rest q. omega arith)
       (λ fuel space u i rest e q r. omega arith)
@@ -543,7 +382,7 @@ module _ (p : Program) (F T : ℕ) where
   shown-more : (fuel space : ℕ) (u : Unbounded) → u .shown ++ run p F T fuel space u .bytes ≡ run p F T fuel space u .machine .shown
   unfolding one-more advanced ended attempted
   shown-more =
-      run-induction (λ fuel space u r. u .shown ++ r .bytes ≡ r .machine .shown)
+      run-induction p F T (λ fuel space u r. u .shown ++ r .bytes ≡ r .machine .shown)
       (λ fuel space u e q. append-nil (u .shown))
       (λ space u i rest q. append-nil (u .shown))
       (λ fuel space u i rest e q r. append-nil (u .shown))
@@ -566,7 +405,7 @@ module _ (p : Program) (F T : ℕ) where
   run-stands : (fuel space : ℕ) (u : Unbounded) → Stands u → Stands (run p F T fuel space u .machine)
   unfolding one-more advanced ended attempted marked after-step
   run-stands =
-      run-induction (λ fuel space u r. Stands u → Stands (r .machine))
+      run-induction p F T (λ fuel space u r. Stands u → Stands (r .machine))
       (λ fuel space u e q s. s)
       (λ space u i rest q s. s)
       (λ fuel space u i rest e q r s. is-ended i rest e refl refl (before-is (u .state) i rest q .1) (step-marked (u .state) e i rest ∙ r))
@@ -622,8 +461,8 @@ unbounded-runs = record {
   goes-on = goes-on;
   keeps-shows = λ p F T fuel space e u s. keeps-shows p F T fuel space u e s;
   frames-full = frames-full;
-  ends-at-once = λ p F T fuel space u i rest e m c. ends-at-once p F T fuel space u i rest e (before-at p F T (u .state) i rest m c);
-  makes-step = λ p F T space u i rest x m c g l. makes-step p F T space u i rest x (before-at p F T (u .state) i rest m c) g l;
+  ends-at-once = λ p F T fuel space u i rest e m c. ends-at-once p F T fuel space u i rest e (before-at (u .state) i rest m c);
+  makes-step = λ p F T space u i rest x m c g l. makes-step p F T space u i rest x (before-at (u .state) i rest m c) g l;
   rule-ends = rule-ends;
   step-ends = step-ends;
 }

@@ -1,12 +1,7 @@
 -- Demand 1: any input gets an answer, within its fuel; a refused call changes nothing lent. Assumes nothing.
-use mathlib.Core.Path.{_≡_, refl, _∙_, ap, sym}
-use mathlib.Core.List.{List}
-use Prim.Native.Nat.{ℕ}
-use Rattle.framed.specs.declared.LoadAnswer.{LoadAnswer}
+use mathlib.Core.Path.{refl, _∙_, ap, sym}
 use Rattle.framed.specs.Answers.{load-number}
-use Rattle.framed.specs.Meaning.{refusal}
-use Rattle.framed.specs.Demands.{Memories, lengths, Demand1}
-use Rattle.load.specs.Load.{load-call}
+use Rattle.framed.specs.Demands.{Demand1}
 use Rattle.load.proofs.Theorems.{load-exact, load-whole}
 use Rattle.look.proofs.Means.{look-is-fetch, look-text-is-fetch}
 use Rattle.lent_machine.specs.Machine.{run-lent, collect-lent}

@@ -1,11 +1,9 @@
 -- Demand 2: the published rules decide. Assumes nothing.
-use mathlib.Core.Path.{_≡_, refl, _∙_, ap, sym, subst}
+use mathlib.Core.Path.{sym, subst}
 use mathlib.Core.Logic.{_↔_}
-use mathlib.Core.List.{List}
-use Prim.Native.Nat.{ℕ}
-use Rattle.framed.specs.Machine.{State, after-step}
+use Rattle.framed.specs.Machine.{after-step}
 use Rattle.framed.specs.Alike.{Alike}
-use Rattle.framed.specs.Demands.{Memories, Demand2}
+use Rattle.framed.specs.Demands.{Demand2}
 use Rattle.framed.proofs.StepJudged.{step-judged}
 use Rattle.tables.specs.Fields.{frame-limit, text-limit}
 use Rattle.wellformed.specs.Held.{state-held}
@@ -13,8 +11,9 @@ use Rattle.load.specs.Load.{load-call}
 use Rattle.load.proofs.Theorems.{load-exact, load-decodes, load-starts}
 use Rattle.look.proofs.Means.{look-is-fetch, look-text-is-fetch}
 use Rattle.run.proofs.Means.{run-call-means}
-use Rattle.lent_machine.specs.Machine.{run-lent, collect-lent}
+use Rattle.lent_machine.specs.Machine.{run-lent}
 use Rattle.lent_machine.proofs.Runs.{bounded-of}
+use Rattle.lent_machine.proofs.Collects.{collect-alike}
 use Rattle.lent_machine.proofs.Calls.{q, left-is}
 use Rattle.lent_machine.proofs.Second as second
 use Rattle.demands.specs.Machine.{look-lent, look-text-lent, machine}
@@ -48,6 +47,9 @@ demand-2 = record {
   collects = λ m w. second.collects m w;
   collects-frames = λ m n w. second.collects-frames m w n;
   collects-texts = λ m k w. second.collects-texts m w k;
+  collects-alike = λ m w. collect-alike m w;
   looks = λ m path w. look-is-fetch (m .program) (m .heap) (m .literal) (m .text) path .looked w;
   looks-text = λ m path w. look-text-is-fetch (m .program) (m .heap) (m .literal) (m .text) path .looked w;
+  looks-fetch = λ m path x l w e. look-is-fetch (m .program) (m .heap) (m .literal) (m .text) path .fetched w x l e;
+  looks-text-fetch = λ m path x bs w e. look-text-is-fetch (m .program) (m .heap) (m .literal) (m .text) path .fetched w x bs e;
 }

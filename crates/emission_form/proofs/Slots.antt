@@ -12,12 +12,13 @@ use Rattle.framed.specs.Common.{member, has-twice}
 use Rattle.framed.specs.Tree.{Slots}
 use Rattle.framed.specs.Paths.{Path}
 use Rattle.framed.specs.Meaning.{slot-names}
+use Rattle.framed.proofs.General.{or-none}
 use Rattle.tables.specs.Fields.{names, literals, expressions, instructions, codes, path-names, slot-name, slot-after, follow-slot, slot-walk}
 use Rattle.tables.proofs.Walks.{walk-from, walk-past}
 use Rattle.program_entries.specs.Form.{Slot, SlotList}
 use Rattle.shapes.specs.Numbers.{Numbers, _⊕_, slots-size}
 use Rattle.shapes.specs.Shape.{FrameShaped}
-use Rattle.shapes.proofs.Lists.{or-none, none-of}
+use Rattle.shapes.proofs.Lists.{none-of}
 use Rattle.emission.specs.Emit.{link-to-slots, first-slot-place}
 use Rattle.emission.specs.Frame.{AtMost}
 use Rattle.emission.specs.Writes.{past-expression}

@@ -11,6 +11,8 @@ use Rattle.framed.specs.Tree.{Written, Slots}
 use Rattle.framed.specs.Paths.{Path, resolve-slots, program-place}
 use Rattle.framed.specs.Meaning.{Lengths, refusal, main-start}
 use Rattle.framed.specs.Program.{Program, program, program-of}
+use Rattle.framed.specs.Accepted.{SourceFits}
+use Rattle.framed.proofs.Accepted.{accepted-start}
 use Rattle.sweep.specs.Decides.{Short}
 use Rattle.names.specs.Kept.{table-of, Kept}
 use Rattle.names.proofs.Laws.{table-length}
@@ -22,9 +24,7 @@ use Rattle.shapes.specs.Shape.{SizeShaped}
 use Rattle.shapes.proofs.Accepted.{accepted-shaped}
 use Rattle.emission.specs.Emit.{emitting, cleared, emit-slots, emit-tree, first-slot-place, write-names, write-literal-lengths, write-literals, write-header, program-words, literal-bytes}
 use Rattle.emission_accepted.proofs.Kept.{accepted-kept}
-use Rattle.accepted.specs.Accepted.{SourceFits}
 use Rattle.accepted.proofs.Accepted.{accepted-sources}
-use Rattle.accepted.proofs.Start.{accepted-start}
 use Rattle.emit_literals.specs.Literals.{AllWritten}
 use Rattle.emit_steps.specs.Steps.{numbers}
 use Rattle.emit_steps.specs.declared.Next.{Next}

@@ -7,7 +7,7 @@ use Rattle.framed.specs.Common.{any}
 use Rattle.framed.specs.Tree.{Written, Expression, Slots}
 use Rattle.framed.specs.Paths.{outside-code, within-slot}
 use Rattle.framed.specs.Meaning.{expression-pieces, slots-pieces, pieces, outside, misplaced}
-use Rattle.shapes.proofs.Lists.{none-append}
+use Rattle.framed.proofs.General.{none-append}
 use Rattle.emit_tree.specs.Members.{NoOperation, NoOperationIn}
 
 mutual

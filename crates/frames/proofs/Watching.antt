@@ -20,7 +20,7 @@ use Rattle.token.specs.declared.TokenRead.{TokenRead}
 use Rattle.token.proofs.KindNumbers.{kind-is}
 use Rattle.token.proofs.Answers.{spot-of}
 use Rattle.scan.specs.Scan.{depth-after}
-use Rattle.shapes.proofs.Names.{same-equal}
+use Rattle.framed.proofs.Lists.{same-equal}
 use Rattle.sweep.specs.Decides.{Decides}
 use Rattle.sweep.proofs.Lists.{any-last}
 use Rattle.sweep.proofs.Loop.{Going, Gives, go-start, go-end, go-none, go-done, go-again}

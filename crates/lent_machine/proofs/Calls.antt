@@ -1,32 +1,31 @@
 -- Lists of calls over lent memories follow the bounded machine's; 36 exactly. For any load and look. Assumes nothing.
-use Prim.Native.Nat.{ℕ, suc, _+_, _<_, _≤_}
+use Prim.Native.Nat.{ℕ, _+_, _<_}
 use mathlib.Core.Path.{_≡_, refl, _∙_, ap, ap₂, sym, subst}
 use mathlib.Core.Logic.{_↔_}
 use mathlib.Core.List.{List, [], _∷_}
 use lib.ListN.{length}
-use Rattle.framed.specs.Tree.{Instruction, Code, _then_}
+use Rattle.framed.specs.Tree.{Instruction, Code}
 use Rattle.framed.specs.Paths.{Path}
 use Rattle.framed.specs.Program.{Program}
 use Rattle.framed.specs.Machine.{State, right-side, frame-literals, start}
-use Rattle.framed.specs.Answers.{Stopped, Report, run-report, collect-report}
+use Rattle.framed.specs.Answers.{Stopped, Report}
 use Rattle.framed.specs.Calls.{Call, run-call, collect-call, frame-total, at-start}
 use Rattle.framed.specs.Calls as C
 use Rattle.framed.specs.Alike.{Alike}
-use Rattle.framed.specs.Demands.{Memories, LentMachine, LentCall, lent-run, lent-collect, fed, lent-reports, memories-after, StopsAfter, stops, steps-in, bytes-in, reported, left, AlikeAfter}
+use Rattle.framed.specs.Demands.{Memories, LentMachine, LentCall, lent-run, lent-collect, fed, lent-reports, memories-after, StopsAfter, stops, steps-in, bytes-in, reported, left, ComesTo, AlikeAfter}
 use Rattle.tables.specs.Fields.{frame-limit, text-limit}
 use Rattle.trees.specs.Held.{program-held}
 use Rattle.heap.specs.Words.{end-mark}
 use Rattle.wellformed.specs.Held.{state-held}
 use Rattle.bounded.specs.Bounded.{Bounded, Session, calls, collected, state-of, first-report}
 use Rattle.bounded.specs.Bounded as bounded
-use Rattle.bounded.specs.Relation as relation
 use Rattle.bounded.specs.Theorems as theorems
 use Rattle.bounded.proofs.Theorems.{bounded-calls, alike-after-calls}
 use Rattle.word_store.specs.Store as store
 use Rattle.word_store.specs.Store.{word-store}
 use Rattle.running.specs.Running.{bounded-held, bounded-run, BoundedForm}
 use Rattle.running.proofs.Laws.{bounded-form, same-state}
-use Rattle.lent_machine.specs.Machine.{formed, with-state, run-lent, collect-lent, LoadCall, LookCall, LookTextCall, machine-with, Started}
+use Rattle.lent_machine.specs.Machine.{formed, run-lent, collect-lent, LoadCall, LookCall, LookTextCall, machine-with, Started}
 use Rattle.lent_machine.proofs.Runs.{bounded-of, run-reports, run-state, run-formed}
 use Rattle.lent_machine.proofs.Collects.{collect-reports, collect-state, collect-formed}
 
@@ -93,14 +92,14 @@ module _ (load : LoadCall) (look : LookCall) (look-text : LookTextCall) where
           literal-same = f .literal-same ∙ el;
         }
 
-  pub follows-calls : (cs : List (LentCall M)) (m : Memories) → formed m → FollowsCalls m (fed M cs) (lent-reports M m cs) (memories-after M m cs)
+  pub follows-calls : (cs : List LentCall) (m : Memories) → formed m → FollowsCalls m (fed cs) (lent-reports M m cs) (memories-after M m cs)
   unfolding calls run-lent collect-lent fed lent-reports memories-after bounded-run bounded.run
   follows-calls [] m w = record { reports = refl; state = refl; well-formed = w; program-same = refl; literal-same = refl }
   follows-calls (lent-run fuel out ∷ cs) m w =
-      next m (run-lent m fuel out .memories) (run-call fuel (length out)) (fed M cs) _ (bounded-of m fuel out w .state) _ _ refl refl refl (run-state m fuel out w)
+      next m (run-lent m fuel out .memories) (run-call fuel (length out)) (fed cs) _ (bounded-of m fuel out w .state) _ _ refl refl refl (run-state m fuel out w)
       _ (run-reports m fuel out w) (follows-calls cs (run-lent m fuel out .memories) (run-formed m fuel out w))
   follows-calls (lent-collect ∷ cs) m w =
-      next m (collect-lent m .memories) collect-call (fed M cs) _ (collected word-store (bounded-in m)) _ _ refl refl refl (collect-state m w)
+      next m (collect-lent m .memories) collect-call (fed cs) _ (collected word-store (bounded-in m)) _ _ refl refl refl (collect-state m w)
       _ (collect-reports m w) (follows-calls cs (collect-lent m .memories) (collect-formed m w))
 
   -- ---- 36
@@ -112,38 +111,37 @@ module _ (load : LoadCall) (look : LookCall) (look-text : LookTextCall) where
     left-is = sym (ap (state-of word-store) (sym (run-state m k out w)) ∙ same-state (run-lent m k out .memories .program) (run-lent m k out .memories .heap) (run-lent m k out .memories .text))
 
   module _ (m : Memories) (w : formed m) where
-    pub frames-full : (fuel k : ℕ) (out : List ℕ) (i : Instruction Path) (rest : Code Path) → k < fuel →
-        StopsAfter Stopped.fuel k (reported M m k out) → left M m k out .remaining ≡ (i then rest) →
+    pub frames-full : (fuel k : ℕ) (out : List ℕ) (i : Instruction Path) (rest : Code Path) → ComesTo M m fuel k out i rest →
         StopsAfter (Stopped.end 36) k (reported M m fuel out) ↔ (frame-limit (m .program) < frame-total (left M m k out) + frame-literals (right-side i))
     unfolding bounded-run
-    frames-full fuel k out i rest lt s e =
+    frames-full fuel k out i rest c =
         let total = ap frame-total (left-is m k out w) in
-        let x = of-bounded m w .frames-full fuel k (length out) (bounded-in m) i rest (B m w .forth (m .heap) (m .text) w) lt
-        (stops-means (run-reports m k out w) s .0) (sym (ap (λ (z : State). z .remaining) (left-is m k out w)) ∙ e) in
+        let x = of-bounded m w .frames-full fuel k (length out) (bounded-in m) i rest (B m w .forth (m .heap) (m .text) w) (c .fuel-left)
+        (stops-means (run-reports m k out w) (c .steps) .0) (sym (ap (λ (z : State). z .remaining) (left-is m k out w)) ∙ c .next) in
         (λ y. rw total (x .0 (stops-means (run-reports m fuel out w) y)), λ y. let z = x .1 (rw total at y) in means-stops (run-reports m fuel out w) (z .0) (z .1))
 
   -- ---- Demand 3, from memories as a load leaves them
 
-  module _ (m : Memories) (w : formed m) (unmarked : end-mark (m .heap) ≡ 0) (a : Alike (start (q m w)) (state-held (m .program) (m .heap) (m .text))) (cs : List (LentCall M)) where
-    f : FollowsCalls m (fed M cs) (lent-reports M m cs) (memories-after M m cs)
+  module _ (m : Memories) (w : formed m) (unmarked : end-mark (m .heap) ≡ 0) (a : Alike (start (q m w)) (state-held (m .program) (m .heap) (m .text))) (cs : List LentCall) where
+    f : FollowsCalls m (fed cs) (lent-reports M m cs) (memories-after M m cs)
     f = follows-calls cs m w
 
-    A : theorems.AlikeAfter word-store (q m w) (B m w .laws) (frame-limit (m .program)) (text-limit (m .program)) (calls-from m (fed M cs) (bounded-in m))
-        (C.calls (q m w) (frame-limit (m .program)) (text-limit (m .program)) (fed M cs) (at-start (q m w)))
+    A : theorems.AlikeAfter word-store (q m w) (B m w .laws) (frame-limit (m .program)) (text-limit (m .program)) (calls-from m (fed cs) (bounded-in m))
+        (C.calls (q m w) (frame-limit (m .program)) (text-limit (m .program)) (fed cs) (at-start (q m w)))
     unfolding state-held
     A =
         alike-after-calls word-store (q m w) (B m w .laws) (frame-limit (m .program)) (text-limit (m .program)) (B m w .admitted) .alike
         (bounded-in m) (B m w .forth (m .heap) (m .text) w) (ap (λ (z : State). z .end-mark) (same-state (m .program) (m .heap) (m .text)) ∙ unmarked)
-        (subst (Alike (start (q m w))) (sym (same-state (m .program) (m .heap) (m .text))) a) (fed M cs)
+        (subst (Alike (start (q m w))) (sym (same-state (m .program) (m .heap) (m .text))) a) (fed cs)
 
     abbrev m′ : Memories
     m′ = memories-after M m cs
 
-    state-is : state-of word-store (calls-from m (fed M cs) (bounded-in m) .state) ≡ state-held (m′ .program) (m′ .heap) (m′ .text)
+    state-is : state-of word-store (calls-from m (fed cs) (bounded-in m) .state) ≡ state-held (m′ .program) (m′ .heap) (m′ .text)
     state-is = ap (state-of word-store) (sym (f .state)) ∙ same-state (m′ .program) (m′ .heap) (m′ .text)
 
     pub after-calls : AlikeAfter M (q m w) (frame-limit (m .program)) (text-limit (m .program)) (lent-reports M m cs) m′
-        (C.calls (q m w) (frame-limit (m .program)) (text-limit (m .program)) (fed M cs) (at-start (q m w)))
+        (C.calls (q m w) (frame-limit (m .program)) (text-limit (m .program)) (fed cs) (at-start (q m w)))
     after-calls = record {
       reports = f .reports ∙ A .reports;
       steps = ap steps-in (f .reports) ∙ A .steps;
@@ -153,18 +151,18 @@ module _ (load : LoadCall) (look : LookCall) (look-text : LookTextCall) where
           let x = A .ends-stand e lo hi in
           let y = ap (λ (z : State). z .end-mark) state-is in
           (λ z. x .0 (y ∙ z), λ z. sym y ∙ x .1 z);
-      frames-full = λ fuel k out i rest lt s e.
+      frames-full = λ fuel k out i rest c.
           subst (λ (F : ℕ). StopsAfter (Stopped.end 36) k (reported M m′ fuel out) ↔ (F < frame-total (left M m′ k out) + frame-literals (right-side i)))
-          (ap frame-limit (f .program-same)) (frames-full m′ (f .well-formed) fuel k out i rest lt s e);
+          (ap frame-limit (f .program-same)) (frames-full m′ (f .well-formed) fuel k out i rest c);
     }
 
   -- with the program and the limits that were loaded
-  pub started-calls : (p : Program) (F T : ℕ) (m : Memories) → Started p F T m → (cs : List (LentCall M)) →
-      AlikeAfter M p F T (lent-reports M m cs) (memories-after M m cs) (C.calls p F T (fed M cs) (at-start p))
+  pub started-calls : (p : Program) (F T : ℕ) (m : Memories) → Started p F T m → (cs : List LentCall) →
+      AlikeAfter M p F T (lent-reports M m cs) (memories-after M m cs) (C.calls p F T (fed cs) (at-start p))
   started-calls p F T m s cs =
-      subst (λ (x : Program). AlikeAfter M x F T (lent-reports M m cs) (memories-after M m cs) (C.calls x F T (fed M cs) (at-start x))) (s .program-is)
-      (subst (λ (x : ℕ). AlikeAfter M (q m (s .well-formed)) x T (lent-reports M m cs) (memories-after M m cs) (C.calls (q m (s .well-formed)) x T (fed M cs) (at-start (q m (s .well-formed))))) (s .F-is)
+      subst (λ (x : Program). AlikeAfter M x F T (lent-reports M m cs) (memories-after M m cs) (C.calls x F T (fed cs) (at-start x))) (s .program-is)
+      (subst (λ (x : ℕ). AlikeAfter M (q m (s .well-formed)) x T (lent-reports M m cs) (memories-after M m cs) (C.calls (q m (s .well-formed)) x T (fed cs) (at-start (q m (s .well-formed))))) (s .F-is)
       (subst (λ (x : ℕ). AlikeAfter M (q m (s .well-formed)) (frame-limit (m .program)) x (lent-reports M m cs) (memories-after M m cs)
-      (C.calls (q m (s .well-formed)) (frame-limit (m .program)) x (fed M cs) (at-start (q m (s .well-formed))))) (s .T-is)
+      (C.calls (q m (s .well-formed)) (frame-limit (m .program)) x (fed cs) (at-start (q m (s .well-formed))))) (s .T-is)
       (after-calls m (s .well-formed) (s .unmarked)
       (subst (λ (x : Program). Alike (start x) (state-held (m .program) (m .heap) (m .text))) (sym (s .program-is)) (s .alike)) cs)))

@@ -1,20 +1,19 @@
 -- Collect over lent memories: its meaning from its definition, and in the terms of the bounded machine. Assumes nothing.
 use Prim.Native.Nat.{ℕ}
 use mathlib.Core.Path.{_≡_, refl, _∙_, ap, ap₂, sym, subst}
-use mathlib.Core.Bool.{Bool, true, false, not, true≢false}
+use mathlib.Core.Bool.{Bool, true, false}
 use mathlib.Core.List.{List, [], _∷_}
-use lib.ListN.{length}
 use Rattle.words.specs.Words.{pick}
 use Rattle.framed.specs.declared.CollectAnswer.{CollectAnswer}
 use Rattle.framed.specs.Answers.{Report, collect-report}
 use Rattle.framed.specs.Machine.{State}
-use Rattle.framed.specs.Calls.{Unbounded, Call, collect-call as collect-fed, calls, first-report, frame-total, text-total}
+use Rattle.framed.specs.Calls.{Unbounded, collect-call as collect-fed, calls, first-report, frame-total, text-total}
 use Rattle.framed.specs.Alike.{Alike}
 use Rattle.framed.specs.Demands.{Memories}
 use Rattle.tables.specs.Fields.{frame-limit, text-limit}
 use Rattle.trees.specs.Held.{program-held, remaining}
 use Rattle.state_form.proofs.Facts.{well-formed-closed}
-use Rattle.wellformed.specs.WellFormed.{WellFormed, well-formed}
+use Rattle.wellformed.specs.WellFormed.{well-formed}
 use Rattle.wellformed.specs.Held.{state-held}
 use Rattle.wellformed.proofs.Decides.{well-formed-decides}
 use Rattle.collector.specs.Collect.{collect-heap}
@@ -90,3 +89,16 @@ module _ (m : Memories) where
         let S = simulation word-store (program-held (m .program) (m .literal)) (B .laws) (frame-limit (m .program)) (text-limit (m .program)) (B .admitted) in
         let r = S .related b (u .state) (B .forth (m .heap) (m .text) w) (subst (Alike (u .state)) (sym (same-state (m .program) (m .heap) (m .text))) a) in
         collect-reports ∙ ap first-of (S .sessions (collect-fed ∷ []) b u r .reports)
+
+    -- what is held after it is alike to what was held before
+    pub collect-alike : Alike (state-held (m .program) (m .heap) (m .text)) (state-held (m .program) (collect-lent m .memories .heap) (collect-lent m .memories .text))
+    unfolding calls bounded.calls first-report bounded.first-report
+    collect-alike =
+        let B = bounded-form (m .program) (m .literal) (w .program) in
+        let b = bounded-held (m .program) (m .heap) (m .text) in
+        let S = simulation word-store (program-held (m .program) (m .literal)) (B .laws) (frame-limit (m .program)) (text-limit (m .program)) (B .admitted) in
+        let u : Unbounded = record { state = state-of word-store b; shown = []; made = 0; tried = false } in
+        let a : Alike (state-of word-store b) (state-of word-store (collected word-store b)) =
+        S .alike (collected word-store b) (state-of word-store b) (S .sessions (collect-fed ∷ []) b u (S .itself b (B .forth (m .heap) (m .text) w)) .related) in
+        subst (λ (s : State). Alike s (state-held (m .program) (collect-lent m .memories .heap) (collect-lent m .memories .text))) (same-state (m .program) (m .heap) (m .text))
+        (subst (Alike (state-of word-store b)) (sym (ap (state-of word-store) collect-state) ∙ same-state (m .program) (collect-lent m .memories .heap) (collect-lent m .memories .text)) a)

@@ -6,19 +6,18 @@ use mathlib.Core.Bool.{Bool, true, false, true≢false}
 use mathlib.Core.List.{List}
 use native.Mathlib.Omega.{arith}
 use lib.ListN.{length, drop}
-use Rattle.words.specs.Words.{pick}
 use Rattle.framed.specs.declared.RunReport.{RunReport}
 use Rattle.framed.specs.declared.RunAnswer.{RunAnswer}
 use Rattle.framed.specs.declared.CollectAnswer.{CollectAnswer}
 use Rattle.framed.specs.Answers.{Stopped, Report, run-report, collect-report}
-use Rattle.framed.specs.Demands.{Memories, Running, Collecting}
-use Rattle.wellformed.specs.WellFormed.{WellFormed, well-formed}
+use Rattle.framed.specs.Demands.{Memories, Running}
+use Rattle.wellformed.specs.WellFormed.{well-formed}
 use Rattle.wellformed.proofs.Decides.{well-formed-decides}
 use Rattle.collect.specs.Collect.{collect-call}
 use Rattle.running.specs.Running.{bounded-run}
 use Rattle.run.specs.Run.{run-call}
 use Rattle.run.proofs.Means.{run-call-means}
-use Rattle.lent_machine.specs.Machine.{formed, run-lent, collect-lent, LoadCall, LookCall, LookTextCall}
+use Rattle.lent_machine.specs.Machine.{formed, run-lent, collect-lent}
 use Rattle.lent_machine.proofs.Reports.{report-kind, stop-in, steps-of}
 use Rattle.lent_machine.proofs.Runs.{bounded-of, run-reports}
 use Rattle.lent_machine.proofs.Collects.{collect-reports}

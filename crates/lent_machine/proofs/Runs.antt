@@ -1,27 +1,21 @@
 -- Run and collect over well-formed memories, in the terms of the bounded machine. Assumes nothing.
-use Prim.Native.Nat.{ℕ, _≤_}
-use mathlib.Core.Path.{_≡_, refl, _∙_, ap, ap₂, sym, subst}
-use mathlib.Core.Bool.{Bool, true, false, true≢false}
+use Prim.Native.Nat.{ℕ}
+use mathlib.Core.Path.{_≡_}
+use mathlib.Core.Bool.{true}
 use mathlib.Core.List.{List}
-use lib.ListN.{length, drop}
-use Rattle.words.specs.Words.{pick}
-use Rattle.framed.specs.declared.RunReport.{RunReport}
+use lib.ListN.{length}
 use Rattle.framed.specs.declared.RunAnswer.{RunAnswer}
-use Rattle.framed.specs.declared.CollectAnswer.{CollectAnswer}
-use Rattle.framed.specs.Answers.{Report, run-report, collect-report}
-use Rattle.framed.specs.Demands.{Memories, Running, Collecting}
-use Rattle.tables.specs.Fields.{frame-limit, text-limit}
-use Rattle.trees.specs.Held.{program-held}
-use Rattle.wellformed.specs.WellFormed.{WellFormed, well-formed}
+use Rattle.framed.specs.Answers.{Report, run-report}
+use Rattle.framed.specs.Demands.{Memories}
+use Rattle.wellformed.specs.WellFormed.{well-formed}
 use Rattle.wellformed.proofs.Decides.{well-formed-decides}
 use Rattle.bounded.specs.Bounded as bounded
 use Rattle.word_store.specs.Store.{word-store}
 use Rattle.running.specs.Running.{bounded-held, bounded-run}
-use Rattle.running.proofs.Laws.{follows-leaves}
 use Rattle.run.specs.Run as run
 use Rattle.run.specs.Run.{run-call, report-of, run-from}
 use Rattle.run.proofs.Means.{follows-here, report-is, run-call-means}
-use Rattle.lent_machine.specs.Machine.{formed, with-state, run-lent, collect-lent}
+use Rattle.lent_machine.specs.Machine.{formed, run-lent}
 
 -- ---- Run
 

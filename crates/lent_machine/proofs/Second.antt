@@ -1,5 +1,5 @@
 -- Demand 2, what concerns run and collect. For any load and look. Assumes nothing.
-use Prim.Native.Nat.{ℕ, suc, _≤_, _<_}
+use Prim.Native.Nat.{ℕ, suc, _≤_}
 use mathlib.Core.Path.{_≡_, refl, _∙_, ap, sym, subst}
 use mathlib.Core.Logic.{_↔_, ⊎-elim}
 use mathlib.Core.Bool.{Bool, true, false, _||_, true≢false}
@@ -14,27 +14,22 @@ use Rattle.framed.specs.declared.Text.{Text}
 use Rattle.framed.specs.Tree.{Instruction, Code}
 use Rattle.framed.specs.Paths.{Path}
 use Rattle.framed.specs.Machine.{State, Effect, gives, ends, Ready, step, after-step}
-use Rattle.framed.specs.Judgments.{I⇒, Meets}
 use Rattle.framed.specs.Answers.{Stopped, Report, run-report, collect-report}
-use Rattle.framed.specs.Calls.{Unbounded, run, frame-total, text-total}
+use Rattle.framed.specs.Calls.{frame-total, text-total}
 use Rattle.framed.specs.Alike.{Alike, InReach}
-use Rattle.framed.specs.Demands.{Memories, LentMachine, StopsAfter, reported, left}
-use Rattle.framed.proofs.StepJudged.{step-judged}
+use Rattle.framed.specs.Demands.{Memories, StopsAfter, reported}
 use Rattle.tables.specs.Fields.{frame-limit, text-limit}
-use Rattle.trees.specs.Held.{program-held}
 use Rattle.heap.specs.Held.{frames-in-use, texts-in-use}
 use Rattle.heap.proofs.Held.{frame-counted, text-counted}
 use Rattle.wellformed.specs.Held.{state-held}
 use Rattle.bounded.specs.Bounded.{state-of}
-use Rattle.bounded.specs.Bounded as bounded
 use Rattle.word_store.specs.Store.{word-store}
 use Rattle.running.specs.Running.{bounded-run}
 use Rattle.running.proofs.Laws.{same-state}
-use Rattle.run.proofs.Means.{run-call-means}
-use Rattle.lent_machine.specs.Machine.{formed, run-lent, collect-lent, LoadCall, LookCall, LookTextCall, machine-with}
+use Rattle.lent_machine.specs.Machine.{formed, run-lent, collect-lent}
 use Rattle.lent_machine.proofs.Runs.{bounded-of, run-reports}
 use Rattle.lent_machine.proofs.Collects.{collect-means}
-use Rattle.lent_machine.proofs.Calls.{bounded-in, B, q, of-bounded, stops-means, means-stops, left-is}
+use Rattle.lent_machine.proofs.Calls.{bounded-in, B, q, of-bounded, stops-means, means-stops}
 
 -- ---- A member of a list, by the test and as a fact
 

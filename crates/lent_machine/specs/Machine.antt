@@ -2,16 +2,12 @@
 -- are given to it, so that what concerns run and collect is proved without them. Assumes nothing.
 use Prim.Native.Nat.{ℕ}
 use mathlib.Core.Path.{_≡_}
-use mathlib.Core.Logic.{_≢_}
 use mathlib.Core.List.{List}
-use mathlib.Core.Option.{some}
 use Rattle.framed.specs.declared.LookAnswer.{LookAnswer}
 use Rattle.framed.specs.Machine.{start}
-use Rattle.framed.specs.Meaning.{refusal}
 use Rattle.framed.specs.Program.{Program, program}
 use Rattle.framed.specs.Alike.{Alike}
-use Rattle.framed.specs.Answers.{load-number}
-use Rattle.framed.specs.Demands.{Memories, lengths, Loading, Running, Collecting, LentMachine}
+use Rattle.framed.specs.Demands.{Memories, Loading, Running, Collecting, LentMachine}
 use Rattle.tables.specs.Fields.{frame-limit, text-limit}
 use Rattle.trees.specs.Held.{program-held}
 use Rattle.heap.specs.Words.{end-mark}

@@ -12,7 +12,7 @@ use Rattle.framed.specs.declared.Value.{Value}
 use Rattle.framed.specs.Common.{any, member}
 use Rattle.framed.specs.Tree.{Written}
 use Rattle.framed.specs.Fetch.{_>>=_, frame-of, get, fetch}
-use Rattle.framed.specs.Calls.{look-from}
+use Rattle.framed.specs.Calls.{look-from, look-names}
 use Rattle.tables.specs.Fields.{names}
 use Rattle.heap.specs.Words.{frame-used, slot-count-at}
 use Rattle.heap.specs.Held.{slot-held, slots-held, frames-held, heap-held}
@@ -25,7 +25,7 @@ use Rattle.wellformed.specs.WellFormed.{limits, WellFormed}
 use Rattle.wellformed.specs.Held.{state-held}
 use Rattle.wellformed.proofs.Decides.{well-formed-decides}
 use Rattle.look_path.specs.Resolve.{found, reached, resolved}
-use Rattle.look.specs.Look.{answer, look-call, path-names, LackedIsUndefined}
+use Rattle.look.specs.Look.{answer, look-call, LackedIsUndefined}
 
 module _ (p h l t : List ℕ) (w : WellFormed p h l t) where
   -- no slot has the number after the last name
@@ -71,8 +71,8 @@ module _ (p h l t : List ℕ) (w : WellFormed p h l t) where
       go true q e ih = rw (← eqb-true (names p) x q, get-lacked v)
       go false q e ih = further (get (frames-held h) v x) (ih e)
 
-  from-lacked : (x : Written) → member (names p) (path-names x) ≡ true → look-from (state-held p h t) x ≡ none
-  unfolding path-names look-from state-held heap-held
+  from-lacked : (x : Written) → member (names p) (look-names x) ≡ true → look-from (state-held p h t) x ≡ none
+  unfolding look-names look-from state-held heap-held
   from-lacked (Written.self ns) e = fetch-lacked ns e _
   from-lacked (Written.up k ns) e = fetch-lacked ns e _
 

@@ -1,9 +1,10 @@
 -- What look and its companion mean: `framed`'s look over what the memories hold, for every memories. Assumes nothing.
-use mathlib.Core.Path.{_≡_, refl, sym, ap, _∙_}
+use mathlib.Core.Path.{_≡_, refl, sym, ap, _∙_, subst}
+use mathlib.Core.Logic.{_↔_}
 use mathlib.Core.Bool.{Bool, true, false}
 use mathlib.Core.List.{List, []}
 use mathlib.Core.Option.{Option, none, some}
-use Prim.Native.Nat.{ℕ, _+_, _*_, _<_}
+use Prim.Native.Nat.{ℕ, _*_, _<_}
 use native.Mathlib.Omega.{arith}
 use native.Mathlib.Decide.{decLt}
 use lib.Dec.{ltb}
@@ -18,7 +19,8 @@ use Rattle.framed.specs.Tree.{Written}
 use Rattle.framed.specs.Program.{Program}
 use Rattle.framed.specs.Values.{text-bytes}
 use Rattle.framed.specs.Machine.{State}
-use Rattle.framed.specs.Calls.{read-path, look-from, kind, look, text-in, look-text}
+use Rattle.framed.specs.Calls.{read-path, look-from, kind, look, text-in, look-text, LooksAs, LooksTextAs}
+use Rattle.framed.proofs.LookJudged.{look-judged}
 use Rattle.words.specs.Words.{pick}
 use Rattle.tables.specs.Fields.{literals, literal-length}
 use Rattle.heap.specs.Words.{text-length}
@@ -72,8 +74,12 @@ pub look-is-fetch : LookIsFetch
 unfolding look-call
 look-is-fetch p h l t path = record {
   refused = λ n. rw (test-false p h l t n);
-  looked = λ w. rw (well-formed-decides p h l t .1 w) (answer-word (program-held p l) (state-held p h t) path);
+  looked = λ w. same w;
+  fetched = λ w x k e. subst (λ (a : Look). (a ≡ k) ↔ LooksAs (state-held p h t) x k) (sym (same w)) (look-judged .kinds (program-held p l) (state-held p h t) path x k e);
 }
+  where
+    same : WellFormed p h l t → look-word (look-call p h l t path) ≡ look (program-held p l) (state-held p h t) path
+    same w = rw (well-formed-decides p h l t .1 w) (answer-word (program-held p l) (state-held p h t) path)
 
 -- ---- The companion
 
@@ -161,5 +167,9 @@ pub look-text-is-fetch : LookTextIsFetch
 unfolding look-bytes look-part
 look-text-is-fetch p h l t path = record {
   refused = λ n. rw (test-false p h l t n) (no-bytes l t);
-  looked = λ w. rw (well-formed-decides p h l t .1 w) (part-is-text p h l t w path);
+  looked = λ w. same w;
+  fetched = λ w x bs e. subst (λ (a : List ℕ). (a ≡ bs) ↔ LooksTextAs (program-held p l) (state-held p h t) x bs) (sym (same w)) (look-judged .texts (program-held p l) (state-held p h t) path x bs e);
 }
+  where
+    same : WellFormed p h l t → look-bytes p h l t path ≡ look-text (program-held p l) (state-held p h t) path
+    same w = rw (well-formed-decides p h l t .1 w) (part-is-text p h l t w path)

@@ -23,7 +23,7 @@ use Rattle.token.specs.Reading.{token-of, token-kind, TokenAt, Spot}
 use Rattle.token.specs.declared.TokenRead.{TokenRead}
 use Rattle.token.proofs.KindNumbers.{kind-is}
 use Rattle.token.proofs.Answers.{spot-of}
-use Rattle.shapes.proofs.Names.{same-equal, same-self}
+use Rattle.framed.proofs.Lists.{same-equal, same-self}
 use Rattle.sweep.proofs.Lists.{or-false, or-true, any-last}
 use Rattle.sweep.proofs.Loop as Loop
 use Rattle.sweep.proofs.Loop.{Going, Gives, go-start, go-end, go-none, go-done, go-again}

@@ -14,7 +14,8 @@ use Rattle.framed.specs.Symbols.{number-in}
 use Rattle.source.specs.Positions.{part}
 use Rattle.words.specs.Words.{word, set-word}
 use Rattle.words.proofs.Laws.{word-other, word-same}
-use Rattle.shapes.proofs.Names.{known-any, same-equal}
+use Rattle.framed.proofs.Lists.{same-equal}
+use Rattle.shapes.proofs.Names.{known-any}
 use Rattle.names.specs.Kept.{table-of, hash-of, Marked, Numbered, KeptAs}
 use Rattle.names.proofs.Laws.{is-new, Noted, table-length, number-last, number-stays, number-none, unknown}
 

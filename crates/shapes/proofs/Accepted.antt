@@ -18,13 +18,12 @@ use Rattle.framed.specs.Parse.{parse}
 use Rattle.framed.specs.Paths.{holder, resolve-slots, program-place}
 use Rattle.framed.specs.Meaning.{Kind, refusal, arguments-refusal, source-refusal, tree-refusal, meaning-refusal, main-start, pieces, bad-frame, above-limit, is-one, path-names}
 use Rattle.framed.specs.Program.{Program, program, program-of, started, program-of-tree, program-of-tokens}
-use Rattle.framed.proofs.General.{none≢some, some-inj}
+use Rattle.framed.proofs.General.{none≢some, some-inj, or-none}
 use Rattle.framed.proofs.Accepted.{suc≢zero, lowest-first, lowest-rest, nesting-accepts}
 use Rattle.framed.proofs.TokensExact.{tokens-agree}
 use Rattle.framed.proofs.ParseExact.{parse-agrees}
 use Rattle.shapes.specs.Numbers.{slots-size}
 use Rattle.shapes.specs.Shape.{AllBelow, Shaped, SizeShaped, FrameShaped, SlotsShaped}
-use Rattle.shapes.proofs.Lists.{or-none}
 use Rattle.shapes.specs.Accepted.{AcceptedShaped}
 use Rattle.shapes.proofs.Tokens.{AllShaped, tokens-shaped}
 use Rattle.shapes.proofs.Names.{Ordered, ordered, table-shaped, literals-shaped}

@@ -8,8 +8,9 @@ use Rattle.framed.specs.Common.{count, total}
 use Rattle.framed.specs.Tree.{Written, Base, Expression, Slots, Instruction, Code, _then_}
 use Rattle.framed.specs.Paths.{Place, within-slot, within-code, names-of, resolve-path, resolve-base, resolve-expression, resolve-slots, resolve-instruction, resolve-code, program-place}
 use Rattle.framed.specs.Meaning.{Kind, Piece, pieces, slot-names, base-pieces, expression-pieces, slots-pieces, instruction-pieces, code-pieces, kind-number, is-one, path-names}
+use Rattle.framed.proofs.Lists.{count-append}
 use Rattle.shapes.specs.Numbers.{Numbers, zeros, _⊕_, one-expression, one-instruction, one-code, more-names, base-size, expression-size, slots-size, instruction-size, code-size}
-use Rattle.shapes.proofs.Lists.{count-append, total-append}
+use Rattle.shapes.proofs.Lists.{total-append}
 use Rattle.shapes.specs.Counted.{Counted, SizesCounted}
 
 counted-none : Counted zeros []

@@ -9,33 +9,13 @@ use native.Mathlib.Decide.{decLt}
 use lib.ListN.{length, getD, length-append, List·getD-append}
 use lib.Seq.{getD-append-seam}
 use lib.IntN.{ℤ}
-use lib.Dec.{eqb}
-use borrow.Author.Tests.{eqb-true, eq-eqb}
-use Rattle.tables.proofs.Bools.{split2}
 use Rattle.framed.specs.Common.{if_then_else_, any, same}
 use Rattle.framed.specs.Tokens.{Token, Fixed, in-range}
 use Rattle.framed.specs.Symbols.{Symbol, number-in, names-after, literals, numbered}
+use Rattle.framed.proofs.Lists.{same-self, same-equal}
 use Rattle.shapes.specs.Shape.{NameShaped, LiteralShaped}
 use Rattle.shapes.proofs.Lists.{none-of}
 use Rattle.shapes.proofs.Tokens.{TokenShaped, AllShaped}
-
--- ---- Equal lists of bytes
-
-pub same-equal : (v w : List ℕ) → same v w ≡ true → v ≡ w
-unfolding same
-same-equal [] [] e = refl
-same-equal [] (y ∷ w) e = absurd (false≢true e)
-same-equal (x ∷ v) [] e = absurd (false≢true e)
-same-equal (x ∷ v) (y ∷ w) e =
-    let h = split2 (eqb x y) (same v w) e in
-    let p : x ≡ y = eqb-true x y (h .0) in
-    let q : v ≡ w = same-equal v w (h .1) in
-    cc
-
-pub same-self : (w : List ℕ) → same w w ≡ true
-unfolding same
-same-self [] = refl
-same-self (x ∷ w) = rw (eq-eqb x x refl, same-self w)
 
 -- ---- Distinct names
 

@@ -14,9 +14,10 @@ use Rattle.framed.specs.Tree.{Written, Base, Expression, Slots, Instruction, Co
 use Rattle.framed.specs.Grammar.{Names⊢, Ups⊢, Path⊢, Base⊢, Expression⊢, Frame⊢, Slots⊢, Instruction⊢, Code⊢}
 use Rattle.framed.specs.Paths.{Place, outside-code, in-code, holder, within-slot, within-code, names-up, names-of, resolve-path, resolve-base, resolve-expression, resolve-slots, resolve-instruction, resolve-code}
 use Rattle.framed.specs.Meaning.{Kind, Piece, slot-names, base-pieces, expression-pieces, slots-pieces, instruction-pieces, code-pieces, bad-frame, kind-number, is-one}
+use Rattle.framed.proofs.General.{or-none, none-append}
+use Rattle.framed.proofs.Lists.{count-append}
 use Rattle.shapes.specs.Numbers.{base-size, expression-size, slots-size, instruction-size, code-size}
 use Rattle.shapes.specs.Shape.{AllBelow, FrameShaped, BaseShaped, ExpressionShaped, SlotsShaped, InstructionShaped, CodeShaped}
-use Rattle.shapes.proofs.Lists.{or-none, none-append, count-append}
 use Rattle.shapes.proofs.Names.{Ordered, ordered-at}
 
 -- ---- Names below N

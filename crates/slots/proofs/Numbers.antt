@@ -1,6 +1,6 @@
 -- Names have the same number exactly when they have the same bytes, where the table has one of them. Assumes nothing.
 use mathlib.Core.Path.{_≡_, refl, sym, ap, _∙_}
-use mathlib.Core.Bool.{Bool, true, false, _&&_, _||_, true≢false, false≢true}
+use mathlib.Core.Bool.{Bool, true, false, _||_, true≢false, false≢true}
 use mathlib.Core.List.{List, [], _∷_, _++_}
 use Prim.Native.Nat.{ℕ, suc}
 use native.Mathlib.Omega.{arith}
@@ -11,26 +11,7 @@ use Rattle.framed.specs.Common.{if_then_else_, any, same}
 use Rattle.framed.specs.Tokens.{Token, Fixed}
 use Rattle.sweep.proofs.Lists.{or-true, any-both, any-last}
 use Rattle.framed.specs.Symbols.{number-in, names-after, name-table}
-
--- ---- `same` is equality
-
-and-true : (a b : Bool) → (a && b) ≡ true → (a ≡ true) × (b ≡ true)
-and-true true b e = (refl, e)
-and-true false b e = absurd (false≢true e)
-
-pub same-equal : (v w : List ℕ) → same v w ≡ true → v ≡ w
-unfolding same
-same-equal [] [] e = refl
-same-equal [] (y ∷ w) e = absurd (false≢true e)
-same-equal (x ∷ v) [] e = absurd (false≢true e)
-same-equal (x ∷ v) (y ∷ w) e =
-    let h = and-true (eqb x y) (same v w) e in
-    rw (eqb-true x y (h .0), same-equal v w (h .1))
-
-pub same-self : (v : List ℕ) → same v v ≡ true
-unfolding same
-same-self [] = refl
-same-self (x ∷ v) = rw (eq-eqb x x refl, same-self v)
+use Rattle.framed.proofs.Lists.{same-equal, same-self}
 
 -- ---- Numbers
 

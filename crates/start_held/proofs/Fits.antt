@@ -9,10 +9,10 @@ use Rattle.framed.specs.Tree.{Base, Expression, Slots}
 use Rattle.framed.specs.Paths.{Path}
 use Rattle.framed.specs.Meaning.{slot-names}
 use Rattle.framed.specs.Program.{Program}
+use Rattle.framed.proofs.General.{or-none}
 use Rattle.bounded.specs.Fits.{BaseFits, ExpressionFits, SlotsFit}
 use Rattle.shapes.specs.Numbers.{base-size, expression-size, slots-size}
 use Rattle.shapes.specs.Shape.{BaseShaped, ExpressionShaped, SlotsShaped}
-use Rattle.shapes.proofs.Lists.{or-none}
 use Rattle.accepted.specs.Constant.{Constant, ConstantExpression, ConstantSlots}
 
 -- q has C codes
