@@ -1,4 +1,4 @@
--- Document 01, "Tokens and grammar" and "Language forms by place": the position of the token reader behind what was read. Assumes nothing.
+-- Document 01, "The calls" and "Language forms by place": the position of the token reader behind what was read. Assumes nothing.
 use mathlib.Core.Path.{_≡_}
 use mathlib.Core.List.{List}
 use Prim.Native.Nat.{ℕ}
