@@ -33,9 +33,9 @@ held-number m source F T _ (h5 a b) = refl
 held-number m source F T _ (h6 a b) = refl
 held-number m source F T _ (h7 a b c) = refl
 held-number m source F T _ (h8 a b c) = refl
-held-number m source F T _ (h9 a b c) = refl
+held-number m source F T _ (h9 a b) = refl
 held-number m source F T _ (h10 a b c) = refl
-held-number m source F T _ (h11 a b c) = refl
+held-number m source F T _ (h11 a b) = refl
 held-number m source F T _ (h12 a b c) = refl
 
 module _ (m : Memories) (source : List ℕ) (F T : ℕ) where
