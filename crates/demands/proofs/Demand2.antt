@@ -11,7 +11,7 @@ use Rattle.load.specs.Load.{load-call}
 use Rattle.load.proofs.Theorems.{load-exact, load-decodes, load-starts}
 use Rattle.look.proofs.Means.{look-is-fetch, look-text-is-fetch}
 use Rattle.run.proofs.Means.{run-call-means}
-use Rattle.lent_machine.specs.Machine.{run-lent}
+use Rattle.lent_machine.specs.Machine.{run-lent, collect-lent}
 use Rattle.lent_machine.proofs.Runs.{bounded-of}
 use Rattle.lent_machine.proofs.Collects.{collect-alike}
 use Rattle.lent_machine.proofs.Calls.{q, left-is}
@@ -23,7 +23,7 @@ both : {A B C : Type 0} → (A ↔ B) → (B ↔ C) → (A ↔ C)
 both x y = (λ a. y .0 (x .0 a), λ c. x .1 (y .1 c))
 
 pub demand-2 : Demand2 machine
-unfolding run-lent look-lent look-text-lent
+unfolding run-lent collect-lent look-lent look-text-lent
 demand-2 = record {
   load-answers = λ m source F T. load-exact m source F T .number;
   loads = λ m source F T. load-exact m source F T .done;
