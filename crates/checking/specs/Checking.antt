@@ -1,5 +1,5 @@
--- Document 01, "The endless machine", step 2, and "What stops a call": the end that an expression, or an instruction that assigns or shows, meets first, over program words p, literal bytes l,
--- heap words h and text bytes t. What it means is `bounded`'s check. Assumes nothing.
+-- Document 01, "The endless machine", step 2, and "What stops a call": the end that an expression, or an instruction that assigns or shows, meets first, over
+-- program words p, literal bytes l, heap words h and text bytes t. What it means is `bounded`'s check. Assumes nothing.
 use Prim.Native.Nat.{ℕ, _<_}
 use mathlib.Core.List.{List}
 use Rattle.framed.specs.declared.Value.{Value}
