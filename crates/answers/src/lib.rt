@@ -1,10 +1,12 @@
 // The numbers of answers, for programs and for C.
+use framed::CollectAnswer;
 use framed::LoadAnswer;
 use framed::LookAnswer;
+use framed::RunAnswer;
 use framed::Stop;
 ghost use mathlib.Core.Path.{_≡_};
 ghost use Rattle.framed.specs.Answers.{load-number, stop-word};
-ghost use Rattle.answers.specs.Numbers.{stopped-number, look-number};
+ghost use Rattle.answers.specs.Numbers.{stopped-number, run-number, collect-number, look-number};
 
 pub fn load_number(a: LoadAnswer) -> u32
     ensures { λ r. ⌜ r ≡ load-number a ⌝ }
@@ -40,6 +42,27 @@ pub fn stop_number(stop: Stop) -> u32
         Stop::TextsFull => 37,
         Stop::Fuel => 1,
         Stop::Output => 2,
+    }
+}
+
+pub fn run_number(a: RunAnswer) -> u32
+    ensures { λ r. ⌜ r ≡ run-number a ⌝ }
+{
+    match a {
+        RunAnswer::Stopped(report) => {
+            let stop = report.stop;
+            stop_number(stop)
+        }
+        RunAnswer::NotWellFormed => 20,
+    }
+}
+
+pub fn collect_number(a: CollectAnswer) -> u32
+    ensures { λ r. ⌜ r ≡ collect-number a ⌝ }
+{
+    match a {
+        CollectAnswer::Collected(_totals) => 0,
+        CollectAnswer::NotWellFormed => 20,
     }
 }
 

@@ -4,9 +4,8 @@ ghost use Rattle.framecorpus.specs.Lines.{Begins, Ends};
 use libc::STDOUT_FILENO;
 
 fn print_run(source: &[u8]) {
-    let mut out = [0u8; 4160];
-    let printed = printed_run::printed_run(source, &mut out);
-    io::write_all(STDOUT_FILENO, printing::front(&out, printed));
+    let mut out = [0u8; 4140];
+    io::write_all(STDOUT_FILENO, printed_run::print(source, &mut out));
 }
 
 fn run_file(name: &[u8]) {

@@ -1,5 +1,6 @@
 -- Look and its companion for C. Assumes nothing.
-use mathlib.Core.Path.{_≡_, refl, _∙_}
+use mathlib.Core.Path.{_≡_, refl, _∙_, sym}
+use mathlib.Core.Bool.{Bool, true, false, true≢false}
 use mathlib.Core.List.{List, [], _∷_}
 use Prim.Native.Nat.{ℕ}
 use types.Run.{OneOf, miss}
@@ -10,7 +11,10 @@ use Rattle.framed.specs.declared.LookAnswer.{LookAnswer}
 use Rattle.framed.proofs.LookAnswer.{the-type}
 use Rattle.answers.specs.Numbers.{look-number}
 use Rattle.splice.specs.Splice.{splice}
-use Rattle.look.specs.Look.{look-call, LookMeans, LookTextMeans}
+use Rattle.wellformed.specs.WellFormed.{WellFormed, well-formed}
+use Rattle.wellformed.proofs.Decides.{well-formed-decides}
+use Rattle.look.specs.Look.{look-call, LookMeans, look-bytes, LookTextMeans}
+use Rattle.look.proofs.Means.{look-text-is-fetch}
 use Rattle.framed_c.specs.Look.{integer-cell, LooksInC, LooksTextInC}
 
 -- a cell that no integer is written to stays
@@ -25,14 +29,14 @@ cell-stays LookAnswer.NotPath z k = refl
 cell-stays LookAnswer.Undefined z k = refl
 
 module _ (p h l t path : List ℕ) (a : LookAnswer) (exact : a ≡ look-call p h l t path) (meaning : LookMeans p h l t path a) where
-  pub integer-found : (n m z : ℤ) → a ≡ LookAnswer.Integer n → m ≡ n → LooksInC p h l t path z 1 m
+  pub integer-found : (r : ℕ) (n m z : ℤ) → a ≡ LookAnswer.Integer n → m ≡ n → r ≡ look-number (LookAnswer.Integer n) → LooksInC p h l t path z r m
   unfolding integer-cell
-  integer-found n m z e i =
+  integer-found r n m z e i is =
       record {
         answer = a;
         exact = exact;
         meaning = meaning;
-        number = rw e;
+        number = rw e is;
         integer-after = i ∙ rw e;
       }
 
@@ -46,6 +50,17 @@ module _ (p h l t path : List ℕ) (a : LookAnswer) (exact : a ≡ look-call p h
         integer-after = cell-stays a z k;
       }
 
+-- what the bytes mean leaves one list
+bytes-are : (p h l t path bytes : List ℕ) → LookTextMeans p h l t path bytes → bytes ≡ look-bytes p h l t path
+bytes-are p h l t path bytes m = go (well-formed p h l t) refl
+  where
+    go : (b : Bool) → well-formed p h l t ≡ b → bytes ≡ look-bytes p h l t path
+    go true e = let w = well-formed-decides p h l t .0 e in m .looked w ∙ sym (look-text-is-fetch p h l t path .looked w)
+    go false e =
+        let n : ¬ WellFormed p h l t = λ w. true≢false (sym (well-formed-decides p h l t .1 w) ∙ e) in
+        m .refused n ∙ sym (look-text-is-fetch p h l t path .refused n)
+
 pub text-copied : (p h l t path out out′ bytes : List ℕ) → LookTextMeans p h l t path bytes → out′ ≡ splice out 0 bytes
     → LooksTextInC p h l t path out (length bytes) out′
-text-copied p h l t path out out′ bytes m w = record { bytes = bytes; meaning = m; count = refl; written = w }
+text-copied p h l t path out out′ bytes m w =
+    record { bytes = bytes; exact = bytes-are p h l t path bytes m; meaning = m; count = refl; written = w }

@@ -3,12 +3,8 @@ use mathlib.Core.Path.{_≡_}
 use mathlib.Core.List.{List}
 use Prim.Native.Nat.{ℕ}
 use Rattle.framed.specs.declared.CollectAnswer.{CollectAnswer}
+use Rattle.answers.specs.Numbers.{collect-number}
 use Rattle.collect.specs.Collect.{collecting, collect-call, CollectMeans}
-
--- 0, or 20 where the memories are not well-formed
-unfoldable pub collect-number : CollectAnswer → ℕ
-collect-number (CollectAnswer.Collected t) = 0
-collect-number CollectAnswer.NotWellFormed = 20
 
 -- what the two cells hold afterwards: a refused call leaves them as they were
 unfoldable pub frames-cell : CollectAnswer → ℕ → ℕ

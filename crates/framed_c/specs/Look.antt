@@ -8,7 +8,7 @@ use lib.ListN.{length}
 use Rattle.framed.specs.declared.LookAnswer.{LookAnswer}
 use Rattle.splice.specs.Splice.{splice}
 use Rattle.answers.specs.Numbers.{look-number}
-use Rattle.look.specs.Look.{look-call, LookMeans, LookTextMeans}
+use Rattle.look.specs.Look.{look-call, LookMeans, look-bytes, LookTextMeans}
 
 -- what the cell holds afterwards: only an integer is written
 unfoldable pub integer-cell : LookAnswer → ℤ → ℤ
@@ -28,9 +28,10 @@ pub record LooksInC (p h l t path : List ℕ) (integer : ℤ) (r : ℕ) (integer
   pub number : r ≡ look-number answer
   pub integer-after : integer′ ≡ integer-cell answer integer
 
--- its companion: how many bytes the text has, and the buffer with them at its front, as far as they fit. `meaning` leaves one list for the bytes
+-- its companion: how many bytes the text has, and the buffer with them at its front, as far as they fit
 pub record LooksTextInC (p h l t path : List ℕ) (out : List ℕ) (r : ℕ) (out′ : List ℕ) : Type 0 where
   pub bytes : List ℕ
+  pub exact : bytes ≡ look-bytes p h l t path
   pub meaning : LookTextMeans p h l t path bytes
   pub count : r ≡ length bytes
   pub written : out′ ≡ splice out 0 bytes

@@ -3,14 +3,8 @@ use mathlib.Core.Path.{_≡_}
 use mathlib.Core.List.{List}
 use Prim.Native.Nat.{ℕ}
 use Rattle.framed.specs.declared.RunAnswer.{RunAnswer}
-use Rattle.framed.specs.Answers.{stop-word}
-use Rattle.answers.specs.Numbers.{stopped-number}
+use Rattle.answers.specs.Numbers.{run-number}
 use Rattle.run.specs.Run.{running, run-call, RunMeans}
-
--- 20 where the memories are not well-formed
-unfoldable pub run-number : RunAnswer → ℕ
-run-number (RunAnswer.Stopped r) = stopped-number (stop-word (r .stop))
-run-number RunAnswer.NotWellFormed = 20
 
 -- what the two cells hold afterwards: a refused call leaves them as they were
 unfoldable pub steps-cell : RunAnswer → ℕ → ℕ

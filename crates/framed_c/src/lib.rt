@@ -38,14 +38,14 @@ pub extern "C" fn framed_run(
 ) -> u32
     ensures { λ r. ⌜ RunsInC (now (p .entry)) (now (h .entry)) (now (l .entry)) (now (t .entry)) fuel (now (out .entry)) (now (steps .entry)) (now (bytes .entry)) r (now (h .exit)) (now (t .exit)) (now (out .exit)) (now (steps .exit)) (now (bytes .exit)) ⌝ }
 {
-    match run::run(p, h, l, t, fuel, out) {
+    let a = run::run(p, h, l, t, fuel, out);
+    match a {
         RunAnswer::Stopped(report) => {
             *steps = report.steps;
             *bytes = report.bytes;
-            let stop = report.stop;
-            answers::stop_number(stop)
+            answers::run_number(a)
         }
-        RunAnswer::NotWellFormed => 20,
+        RunAnswer::NotWellFormed => answers::run_number(a),
     }
 }
 
@@ -60,13 +60,14 @@ pub extern "C" fn framed_collect(
 ) -> u32
     ensures { λ r. ⌜ CollectsInC (now (p .entry)) (now (h .entry)) (now (l .entry)) (now (t .entry)) (now (frames .entry)) (now (texts .entry)) r (now (h .exit)) (now (frames .exit)) (now (texts .exit)) ⌝ }
 {
-    match collect::collect(p, h, l, t) {
+    let a = collect::collect(p, h, l, t);
+    match a {
         CollectAnswer::Collected(totals) => {
             *frames = totals.frames;
             *texts = totals.texts;
-            0
+            answers::collect_number(a)
         }
-        CollectAnswer::NotWellFormed => 20,
+        CollectAnswer::NotWellFormed => answers::collect_number(a),
     }
 }
 
@@ -86,7 +87,7 @@ pub extern "C" fn framed_look(
         return answers::look_number(a);
     };
     *integer = n;
-    1
+    answers::look_number(a)
 }
 
 #[no_mangle]

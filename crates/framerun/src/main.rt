@@ -5,7 +5,6 @@ use libc::STDOUT_FILENO;
 fn main() {
     let mut source = [0u8; 16385];
     let n = io::read_full(STDIN_FILENO, &mut source);
-    let mut out = [0u8; 4160];
-    let printed = printed_run::printed_run(&source[..n], &mut out);
-    io::write_all(STDOUT_FILENO, printing::front(&out, printed));
+    let mut out = [0u8; 4140];
+    io::write_all(STDOUT_FILENO, printed_run::print(&source[..n], &mut out));
 }

@@ -1,10 +1,11 @@
--- One law for each way through `printed_run`. Assumes nothing.
-use Prim.Native.Nat.{ℕ, zero, suc, _≤_}
-use mathlib.Core.Path.{_≡_, refl, _∙_, ap, ap₂, sym, subst}
+-- One law for each way through `write_print`, and the part that `print` answers. Assumes nothing.
+use Prim.Native.Nat.{ℕ, zero, suc, _+_, _≤_}
+use mathlib.Core.Path.{_≡_, refl, _∙_, ap, sym, subst}
 use mathlib.Core.List.{List, [], _∷_, _++_}
-use mathlib.Core.Option.{Option, some}
+use mathlib.Core.Option.{some}
 use native.Mathlib.Omega.{arith}
-use lib.ListN.{length, take}
+use lib.ListN.{length, take, drop, replicate}
+use lib.Seq.{take-append-seam}
 use types.Run.{OneOf, miss}
 use denote.Enum.Declared.{tagOf}
 use Rattle.framed.specs.declared.LoadAnswer.{LoadAnswer}
@@ -14,25 +15,20 @@ use Rattle.framed.specs.declared.CollectAnswer.{CollectAnswer}
 use Rattle.framed.specs.declared.Totals.{Totals}
 use Rattle.framed.specs.Meaning.{Lengths, refusal}
 use Rattle.framed.specs.Program.{Program, program}
-use Rattle.framed.specs.Answers.{Stopped, stop-word, load-number, Report, run-report, collect-report}
-use Rattle.framed.specs.Calls.{Unbounded, at-start, Ran, run, frame-total, text-total}
-use Rattle.framed.specs.Alike.{Alike}
+use Rattle.framed.specs.Answers.{load-number, run-report, collect-report}
 use Rattle.framed.specs.Framerun.{right-memories, number, stop-bytes, last-line, printed, framerun}
-use Rattle.framed.specs.Demands.{Memories, lengths}
 use Rattle.framed.proofs.RunAnswer.{the-type as run-type}
 use Rattle.framed.proofs.CollectAnswer.{the-type as collect-type}
 use Rattle.framed.specs.Common.{bytes}
-use Rattle.tables.specs.Fields.{frame-limit, text-limit}
-use Rattle.trees.specs.Held.{program-held}
-use Rattle.wellformed.specs.Held.{state-held}
-use Rattle.wellformed.specs.WellFormed.{WellFormed}
-use Rattle.load.specs.Load.{memories, HoldsStart, Loads, LoadMeans}
+use Rattle.load.specs.Load.{memories, Loads, LoadMeans}
 use Rattle.run.specs.Run.{RunMeans}
-use Rattle.collect.specs.Collect.{Collecting, collecting, collect-call}
-use Rattle.lent_machine.specs.Machine.{collect-lent}
+use Rattle.collect.specs.Collect.{collecting, collect-call}
 use Rattle.lent_machine.proofs.Reports.{report-kind, stop-in, steps-of, bytes-of, frames-of, texts-of}
-use Rattle.lent_machine.proofs.Collects.{collect-alongside}
+use Rattle.splice.proofs.Laws.{splice-fits}
 use Rattle.printing.specs.Lines.{refused-line, counts-line, end-line, ran-lines, Appends}
+use Rattle.printed_run.specs.Longest.{longest}
+use Rattle.printed_run.proofs.Reports.{zeros, right, run-of, ran-report, totals-report, RanFromStart, ran-from-start, collected-after}
+use Rattle.printed_run.proofs.Longest.{longest-print}
 
 -- ---- What is printed
 
@@ -48,104 +44,74 @@ framerun-by source (suc k) e = rw (framerun, e)
 
 -- the whole run
 print-loaded : (source : List ℕ) (q : Program) → refusal right-memories source 256 256 ≡ 0 → program source ≡ some q →
-    framerun source ≡ run q 256 256 100000 4096 (at-start q) .bytes ++ last-line (run q 256 256 100000 4096 (at-start q))
+    framerun source ≡ run-of q .bytes ++ last-line (run-of q)
 unfolding print-by printed
 print-loaded source q z e = framerun-by source 0 z ∙ ap printed e
 
-module _ (source out : List ℕ) (p h l t : List ℕ) (ep : length p ≡ 16384) (eh : length h ≡ 16384) (el : length l ≡ 8192) (et : length t ≡ 16384)
-    (a : LoadAnswer) (p₁ h₁ l₁ t₁ : List ℕ) (x : LoadMeans (memories p h l t) source 256 256 a (memories p₁ h₁ l₁ t₁)) (n : ℕ) (en : n ≡ load-number a) where
-  right : lengths (memories p h l t) ≡ right-memories
-  unfolding lengths
-  right = λ i. record { program = ep i; heap = eh i; literal = el i; text = et i }
+-- ---- write_print
 
+module _ {source : List ℕ} {a : LoadAnswer} {p h l t : List ℕ} {n : ℕ} (means : LoadMeans zeros source 256 256 a (memories p h l t)) (is : n ≡ load-number a) where
   number-is : n ≡ refusal right-memories source 256 256
-  number-is = en ∙ x .number ∙ ap (λ (m : Lengths). refusal m source 256 256) right
+  number-is = is ∙ means .number ∙ ap (λ (m : Lengths). refusal m source 256 256) right
 
-  pub prints-refused : (n ≡ 0 → ⊥) → (out′ : List ℕ) (r : ℕ) → Appends out 0 (refused-line n) out′ r → Appends out 0 (framerun source) out′ r
+  pub prints-refused : {out out′ : List ℕ} {r : ℕ} → (n ≡ 0 → ⊥) → Appends out 0 (refused-line n) out′ r → Appends out 0 (framerun source) out′ r
   unfolding refused-line print-by
-  prints-refused ne out′ r w = subst (λ (bs : List ℕ). Appends out 0 bs out′ r) (go n number-is ne) w
+  prints-refused {out} {out′} {r} ne w = subst (λ (bs : List ℕ). Appends out 0 bs out′ r) (go n number-is ne) w
     where
       go : (k : ℕ) → k ≡ refusal right-memories source 256 256 → (k ≡ 0 → ⊥) → refused-line k ≡ framerun source
       go zero e z = absurd (z refl)
       go (suc k) e z = sym (framerun-by source (suc k) (sym e))
 
-  module _ (zero-is : n ≡ 0) where
-    held : Loads source 256 256 (memories p₁ h₁ l₁ t₁)
-    held = x .loads (ap (λ (m : Lengths). refusal m source 256 256) right ∙ sym number-is ∙ zero-is)
+  module _ (none : n ≡ 0) {x : RunAnswer} {h₂ t₂ shown : List ℕ} (run-means : RunMeans p h l t 100000 (replicate 4096 0) x h₂ t₂ shown) where
+    loads : Loads source 256 256 (memories p h l t)
+    loads = means .loads (ap (λ (m : Lengths). refusal m source 256 256) right ∙ sym number-is ∙ none)
 
     abbrev q : Program
-    q = held .its-program
+    q = loads .its-program
 
-    -- what the unbounded machine does
-    abbrev y : Ran
-    y = run q 256 256 100000 4096 (at-start q)
+    follows : RanFromStart q p l x h₂ t₂ shown
+    follows = ran-from-start q p h l t (loads .held) x h₂ t₂ shown run-means
 
-    abbrev m₁ : Memories
-    m₁ = memories p₁ h₁ l₁ t₁
+    -- the run is not refused
+    pub never-refused : OneOf (1 ∷ []) (tagOf run-type x) → ⊥
+    unfolding report-kind
+    never-refused k = go x k (follows .reported)
+      where
+        go : (y : RunAnswer) → OneOf (1 ∷ []) (tagOf run-type y) → run-report y shown ≡ ran-report q → ⊥
+        go (RunAnswer.Stopped r) k e = miss (1 ∷ []) 0 tt k
+        go RunAnswer.NotWellFormed k e = let z : _≡_ {A = ℕ} 2 0 = ap report-kind e in omega arith
 
-    start-held : HoldsStart q 256 256 m₁
-    start-held = held .held
-
-    w : WellFormed p₁ h₁ l₁ t₁
-    w = start-held .well-formed
-
-    module _ (shown₀ : List ℕ) (es : length shown₀ ≡ 4096) (ra : RunAnswer) (h₂ t₂ shown : List ℕ) (xr : RunMeans p₁ h₁ l₁ t₁ 100000 shown₀ ra h₂ t₂ shown) where
-      abbrev ran-so : Ran
-      ran-so = run (program-held p₁ l₁) (frame-limit p₁) (text-limit p₁) 100000 (length shown₀) (at-start q)
-
-      same-run : ran-so ≡ y
-      same-run = λ i. run (start-held .program-is i) (start-held .F-is i) (start-held .T-is i) 100000 (es i) (at-start q)
-
-      begins : Alike (at-start q .state) (state-held p₁ h₁ t₁)
-      unfolding at-start
-      begins = start-held .at-start
-
-      report-is : run-report ra shown ≡ Report.ran (y .stop) (y .steps) (length (y .bytes)) (y .bytes)
-      report-is = xr .ran w .reported (at-start q) begins ∙ ap (λ (z : Ran). Report.ran (z .stop) (z .steps) (length (z .bytes)) (z .bytes)) same-run
-
-      alike-after : Alike (y .machine .state) (state-held p₁ h₂ t₂)
-      alike-after = subst (λ (z : Ran). Alike (z .machine .state) (state-held p₁ h₂ t₂)) same-run (xr .ran w .alike (at-start q) begins)
-
-      -- the run is not refused
-      pub never-refused : OneOf (1 ∷ []) (tagOf run-type ra) → Appends out 0 (framerun source) out 0
+    module _ {y : CollectAnswer} {h₃ : List ℕ} (collects : collect-call p h₂ l t₂ ≡ collecting y h₃) where
+      -- nor is the collect
+      pub never-uncollected : OneOf (1 ∷ []) (tagOf collect-type y) → ⊥
       unfolding report-kind
-      never-refused k = go ra k report-is
+      never-uncollected k = go y k (collected-after follows y h₃ collects)
         where
-          go : (a : RunAnswer) → OneOf (1 ∷ []) (tagOf run-type a) → run-report a shown ≡ Report.ran (y .stop) (y .steps) (length (y .bytes)) (y .bytes) → Appends out 0 (framerun source) out 0
-          go (RunAnswer.Stopped r) k e = absurd (miss (1 ∷ []) 0 tt k)
-          go RunAnswer.NotWellFormed k e = let z : _≡_ {A = ℕ} 2 0 = ap report-kind e in absurd (omega arith)
+          go : (z : CollectAnswer) → OneOf (1 ∷ []) (tagOf collect-type z) → collect-report z ≡ totals-report q → ⊥
+          go (CollectAnswer.Collected t) k e = miss (1 ∷ []) 0 tt k
+          go CollectAnswer.NotWellFormed k e = let z : _≡_ {A = ℕ} 2 1 = ap report-kind e in omega arith
 
-      module _ (report : RunReport) (er : ra ≡ RunAnswer.Stopped report) where
-        module _ (ca : CollectAnswer) (h₃ : List ℕ) (xc : collect-call p₁ h₂ l₁ t₂ ≡ collecting ca h₃) where
-          totals-are : collect-report ca ≡ Report.collected (frame-total (y .machine .state)) (text-total (y .machine .state))
-          unfolding collect-lent
-          totals-are =
-              ap (λ (z : Collecting). collect-report (z .answer)) (sym xc)
-              ∙ collect-alongside (memories p₁ h₂ l₁ t₂) (xr .ran w .well-formed) (y .machine) alike-after
+      module _ {report : RunReport} {totals : Totals} (stopped : x ≡ RunAnswer.Stopped report) (collected : y ≡ CollectAnswer.Collected totals) where
+        lines-are : ran-lines shown report totals ≡ run-of q .bytes ++ last-line (run-of q)
+        unfolding ran-lines end-line counts-line last-line stop-in steps-of bytes-of frames-of texts-of
+        lines-are =
+            let ran : run-report (RunAnswer.Stopped report) shown ≡ ran-report q = ap (λ (z : RunAnswer). run-report z shown) (sym stopped) ∙ follows .reported in
+            let counted : collect-report (CollectAnswer.Collected totals) ≡ totals-report q = ap collect-report (sym collected) ∙ collected-after follows y h₃ collects in
+            λ i. ap bytes-of ran i
+            ++ (bytes "end " ++ (stop-bytes (ap stop-in ran i) ++ (bytes " steps " ++ (number (ap steps-of ran i)
+            ++ (bytes " frames " ++ (number (ap frames-of counted i) ++ (bytes " texts " ++ (number (ap texts-of counted i) ++ (10 ∷ [])))))))))
 
-          pub never-uncollected : OneOf (1 ∷ []) (tagOf collect-type ca) → Appends out 0 (framerun source) out 0
-          unfolding report-kind
-          never-uncollected k = go ca k totals-are
-            where
-              go : (a : CollectAnswer) → OneOf (1 ∷ []) (tagOf collect-type a) → collect-report a ≡ Report.collected (frame-total (y .machine .state)) (text-total (y .machine .state)) → Appends out 0 (framerun source) out 0
-              go (CollectAnswer.Collected t) k e = absurd (miss (1 ∷ []) 0 tt k)
-              go CollectAnswer.NotWellFormed k e = let z : _≡_ {A = ℕ} 2 1 = ap report-kind e in absurd (omega arith)
+        pub prints-ran : {out out′ : List ℕ} {r : ℕ} → Appends out 0 (ran-lines shown report totals) out′ r → Appends out 0 (framerun source) out′ r
+        prints-ran {out} {out′} {r} w =
+            subst (λ (bs : List ℕ). Appends out 0 bs out′ r)
+            (lines-are ∙ sym (print-loaded source q (sym number-is ∙ none) (loads .program-is))) w
 
-          module _ (totals : Totals) (ec : ca ≡ CollectAnswer.Collected totals) where
-            ran : Report.ran (stop-word (report .stop)) (report .steps) (report .bytes) (take (report .bytes) shown) ≡ Report.ran (y .stop) (y .steps) (length (y .bytes)) (y .bytes)
-            ran = ap (λ (z : RunAnswer). run-report z shown) (sym er) ∙ report-is
+-- ---- print
 
-            counted : Report.collected (totals .frames) (totals .texts) ≡ Report.collected (frame-total (y .machine .state)) (text-total (y .machine .state))
-            counted = ap collect-report (sym ec) ∙ totals-are
-
-            lines-are : ran-lines shown report totals ≡ y .bytes ++ last-line y
-            unfolding ran-lines end-line counts-line last-line stop-in steps-of bytes-of frames-of texts-of
-            lines-are = λ i.
-                ap bytes-of ran i
-                ++ (bytes "end " ++ (stop-bytes (ap stop-in ran i) ++ (bytes " steps " ++ (number (ap steps-of ran i)
-                ++ (bytes " frames " ++ (number (ap frames-of counted i) ++ (bytes " texts " ++ (number (ap texts-of counted i) ++ (10 ∷ [])))))))))
-
-            pub prints-ran : (out′ : List ℕ) (r : ℕ) → Appends out 0 (ran-lines shown report totals) out′ r → Appends out 0 (framerun source) out′ r
-            prints-ran out′ r a =
-                subst (λ (bs : List ℕ). Appends out 0 bs out′ r)
-                (lines-are ∙ sym (print-loaded source q (sym number-is ∙ zero-is) (held .program-is))) a
+-- the part that the print takes of a buffer that is long enough
+pub part-printed : (source out out′ : List ℕ) (n : ℕ) → longest ≤ length out → Appends out 0 (framerun source) out′ n → take n out′ ≡ framerun source
+part-printed source out out′ n room w =
+    let few = longest-print source in
+    let size : n ≡ length (framerun source) = let b = w .behind in omega arith in
+    let fits : 0 + length (framerun source) ≤ length out = omega arith in
+    rw (w .written, size, splice-fits out 0 (framerun source) fits) (take-append-seam (framerun source) (drop (0 + length (framerun source)) out))

@@ -1,12 +1,16 @@
 // The printed run of a source (document 01): what the program `framerun` prints for it.
 use framed::CollectAnswer;
 use framed::RunAnswer;
+ghost use mathlib.Core.Path.{_≡_};
+ghost use Prim.Native.Nat.{_≤_};
+ghost use lib.ListN.{length};
 ghost use Rattle.framed.specs.Framerun.{framerun};
 ghost use Rattle.printing.specs.Lines.{Appends};
+ghost use Rattle.printed_run.specs.Longest.{longest};
 
 // Loads with F = T = 256, runs once with fuel 100000 over 4,096 bytes, collects; the print goes to the front of `out`, what lies past its end is dropped, and
 // the answer is how many bytes the print has.
-pub fn printed_run(source: &[u8], out: &mut [u8]) -> usize
+fn write_print(source: &[u8], out: &mut [u8]) -> usize
     ensures { λ r. ⌜ Appends (now (out .entry)) 0 (framerun (now (source .entry))) (now (out .exit)) r ⌝ }
 {
     let mut p = [0u32; 16384];
@@ -26,4 +30,14 @@ pub fn printed_run(source: &[u8], out: &mut [u8]) -> usize
         return 0;
     };
     printing::print_ran(out, &shown, report, totals)
+}
+
+// The print, as the front part of a buffer that is long enough for every print.
+pub fn print<'a>(source: &[u8], out: &'a mut [u8]) -> &'a [u8]
+    requires { ⌜ longest ≤ length (now out) ⌝ }
+    ensures { λ r. ⌜ now r ≡ framerun (now (source .entry)) ⌝ }
+{
+    let n = write_print(source, out);
+    let whole = &out[..];
+    printing::front(whole, n)
 }

@@ -1,5 +1,5 @@
 -- One law for each way through the functions of this crate. Assumes nothing.
-use mathlib.Core.Path.{_≡_, refl, _∙_, ap, sym, subst}
+use mathlib.Core.Path.{_≡_, _∙_, ap, sym, subst}
 use mathlib.Core.List.{List, [], _∷_, _++_, append-assoc}
 use Prim.Native.Nat.{ℕ, suc, _+_, _-_, _≤_, _<_}
 use native.Mathlib.Nat.{min-le-right}
@@ -14,7 +14,6 @@ use Rattle.framed.specs.Common.{bytes}
 use Rattle.framed.specs.Values.{digits-within, decimal}
 use Rattle.framed.specs.Framerun.{number, stop-bytes}
 use Rattle.decimal.specs.Decimal.{Holds}
-use Rattle.splice.specs.Splice.{splice}
 use Rattle.splice.proofs.Laws.{splice-append}
 use Rattle.printing.specs.Lines.{refused-line, counts-line, end-line, ran-lines, Appends}
 
