@@ -66,7 +66,7 @@ same-length-3 c = search needs
 
 -- src/lib.rt:303:9
 returns-3 : tie.Need-returns-3
-returns-3 c = search number-met
+returns-3 c = number-met _ _ _ _ _ (c .before .before .before .before .before .before .before .before .before .before .before .before .before .before .before .before .before .before .pre .0) _ (c .before .before .before .before .before .before .before .before .before .before .before .before .before .instruction-c .ensures) _ (c .before .before .before .before .before .before .before .before .before .before .before .expression-a .ensures) _ (c .before .before .before .before .before .before .before .before .before .before .operand-number .ensures) (c .before .before .before .before .before .before .before .before .before .if1 .left) _ (c .before .before .before .before .before .before .before .expression-b .ensures) _ (c .before .before .before .before .before .before .operand-number2 .ensures) (c .before .before .before .before .before .if2 .left) _ _ (c .before .before .before .before .value .ensures) (c .before .before .before .value2 .ensures) _ (c .before .join-end .ensures) (c .if3 .taken)
 
 -- src/lib.rt:305:5
 put-join-requires : tie.Need-put-join-requires
