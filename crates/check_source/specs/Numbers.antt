@@ -1,17 +1,15 @@
--- Document 01, the table, numbers 1 to 12, in the steps in which they are decided. Assumes nothing.
+-- Document 01, the table, numbers 4 to 12, in the steps in which they are decided; 1 to 3 are in the crate `limits`. Assumes nothing.
 use mathlib.Core.Path.{_≡_}
-use mathlib.Core.Bool.{Bool, true, false, _&&_}
+use mathlib.Core.Bool.{Bool, true, false}
 use mathlib.Core.List.{List}
 use mathlib.Core.Option.{some}
 use Prim.Native.Nat.{ℕ, _≤_}
-use lib.Dec.{leb, ltb}
-use Rattle.framed.specs.Common.{if_then_else_, between}
 use Rattle.framed.specs.Bytes.{class}
 use Rattle.framed.specs.Tokens.{Token, tokens}
 use Rattle.framed.specs.Symbols.{symbols, name-table}
 use Rattle.framed.specs.Tree.{Written, Slots}
 use Rattle.framed.specs.Parse.{parse}
-use Rattle.framed.specs.Meaning.{Lengths, right-lengths, meaning-refusal}
+use Rattle.framed.specs.Meaning.{meaning-refusal}
 use Rattle.framed.specs.Answers.{load-number}
 use Rattle.framed.specs.declared.LoadAnswer.{LoadAnswer}
 use Rattle.sweep.specs.Decides.{Decides}
@@ -21,17 +19,6 @@ use Rattle.slots.specs.Own.{bad-tree}
 use Rattle.sums.specs.Totals.{Totalled}
 use Rattle.limits.specs.Limits.{CountsNames}
 use Rattle.survey.specs.declared.Findings.{Findings}
-
-abbrev pub lengths : ℕ → ℕ → ℕ → ℕ → Lengths
-lengths program heap literal text = record { program = program; heap = heap; literal = literal; text = text }
-
--- 1
-unfoldable pub lengths-refusal : Lengths → ℕ
-lengths-refusal m = if right-lengths m then 0 else 1
-
--- 2 and 3, for a source of n bytes
-unfoldable pub limits-refusal : ℕ → ℕ → ℕ → ℕ
-limits-refusal n F T = if between 3 256 F && leb T 256 then (if ltb 16384 n then 3 else 0) else 2
 
 -- 7 to 12, where the source is one frame
 pub record Means (s : List ℕ) (F r : ℕ) : Type 0 where

@@ -9,47 +9,10 @@ ghost use Rattle.sweep.specs.Decides.{Short, Decides};
 ghost use Rattle.token_cache.specs.Cache.{Cached, Unnoted};
 ghost use Rattle.names.specs.Kept.{Sized};
 ghost use Rattle.slots.specs.Own.{bad-tree};
-ghost use Rattle.check_source.specs.Numbers.{lengths, lengths-refusal, limits-refusal, CleanSeen, MeaningOf, Means, Numbered, KeptAt};
+ghost use Rattle.limits.specs.Arguments.{lengths};
+ghost use Rattle.check_source.specs.Numbers.{CleanSeen, MeaningOf, Means, Numbered, KeptAt};
 use framed::LoadAnswer;
 use survey::Findings;
-
-// 1 where a memory has another length.
-fn lengths_refusal(program: usize, heap: usize, literal: usize, text: usize) -> u32
-    ensures { λ r. ⌜ r ≡ lengths-refusal (lengths program heap literal text) ⌝ }
-{
-    if program != 16384 {
-        return 1;
-    }
-    if heap != 16384 {
-        return 1;
-    }
-    if literal != 8192 {
-        return 1;
-    }
-    if text != 16384 {
-        return 1;
-    }
-    0
-}
-
-// 2 where F or T is outside its range, 3 where the source is too long.
-fn limits_refusal(length: usize, f: u32, t: u32) -> u32
-    ensures { λ r. ⌜ r ≡ limits-refusal length f t ⌝ }
-{
-    if f < 3 {
-        return 2;
-    }
-    if 256 < f {
-        return 2;
-    }
-    if 256 < t {
-        return 2;
-    }
-    if 16384 < length {
-        return 3;
-    }
-    0
-}
 
 // Some frame has a name twice or more than 16 slots. Where none was seen to be so, they are not looked at again.
 fn bad_frame(c: &[u64; 16384], s: &[u8], clean: bool) -> bool
@@ -171,11 +134,11 @@ pub fn check(
     ensures cached { λ _. ⌜ Cached (now (c .exit)) (now (s .entry)) ⌝ }
     ensures kept { λ r. ⌜ KeptAt (load-number r) (now (c .exit)) (now (s .entry)) (now (begins .exit)) (now (ends .exit)) (now (places .exit)) (now (count .exit)) (now (strings .exit)) ⌝ }
 {
-    let a = lengths_refusal(program, heap, literal, text);
+    let a = limits::lengths_refusal(program, heap, literal, text);
     if a != 0 {
         return answer(a);
     }
-    let b = limits_refusal(s.len(), f, t);
+    let b = limits::limits_refusal(s.len(), f, t);
     if b != 0 {
         return answer(b);
     }

@@ -4,4 +4,3 @@ pub mod Laws
 pub mod Values
 pub mod Assignment
 pub mod Does
-pub mod Join

@@ -1,10 +1,10 @@
--- Document 01, "The endless machine", one step on an instruction that makes no frame and no text and shows nothing, and on `:=` of a join after reserve, over program words p,
+-- Document 01, "The endless machine", one step on an instruction that makes no frame and no text and shows nothing, over program words p,
 -- literal bytes l, heap words h and text bytes t: its end is that of `bounded`'s check, and what it does is the bounded machine's commit. Assumes nothing.
 use Prim.Native.Nat.{ℕ, _<_}
 use mathlib.Core.Path.{_≡_}
-use mathlib.Core.Bool.{Bool, true, false, not}
+use mathlib.Core.Bool.{not}
 use mathlib.Core.List.{List, []}
-use lib.Dec.{eqb, leb}
+use lib.Dec.{eqb}
 use lib.ListN.{getElem?}
 use Rattle.words.specs.Words.{pick}
 use Rattle.framed.specs.declared.Value.{Value}
@@ -13,21 +13,19 @@ use Rattle.framed.specs.Machine.{Result, gives, ends, frame-literals, join-sign
 use Rattle.tables.specs.declared.ExpressionEntry.{ExpressionEntry}
 use Rattle.tables.specs.declared.InstructionEntry.{InstructionEntry}
 use Rattle.tables.specs.Entries.{expression-at, instruction-at}
-use Rattle.tables.specs.Fields.{instructions, instruction-kind, instruction-c, expression-kind, expression-a, expression-b}
+use Rattle.tables.specs.Fields.{instructions}
 use Rattle.trees.specs.Held as trees
 use Rattle.heap.specs.Words.{self-held, program-held}
 use Rattle.heap.specs.Held.{frames-held, heap-held}
 use Rattle.paths.specs.Paths.{path-held}
 use Rattle.puts.specs.Puts.{target-along, put-slot}
-use Rattle.joining.specs.Joining.{join-end}
 use Rattle.operands.specs.Operands.{operand-value}
 use Rattle.operand_checks.specs.OperandChecks.{put-end}
 use Rattle.wellformed.specs.WellFormed.{WellFormed}
 use Rattle.bounded.specs.Operations.{Product, number, text}
 use Rattle.bounded.specs.Check.{end-of, slot-end, target-end, jump-result, check}
-use Rattle.checking.specs.Checking.{ChecksInstruction}
 use Rattle.producing.specs.Producing.{operation-held}
-use Rattle.commit.specs.Commit.{put-along, Jumps, CanCommit, Commits}
+use Rattle.commit.specs.Commit.{put-along, Jumps, Commits}
 use Rattle.direct.specs.declared.Given.{Given}
 
 -- ---- Values
@@ -154,29 +152,3 @@ module _ (p l h t : List ℕ) (i : ℕ) where
     pub made : r ≡ 0 → IsMade h′
     pub ended : (r ≡ 0 → ⊥) → (r ≡ 255 → ⊥) → IsEnded r h′
     pub left : r ≡ 255 → IsLeft h′
-
--- ---- `:=` of a join, after reserve
-
--- instruction i is one: kind 12 is `#`
-unfoldable pub joins-entry : List ℕ → ℕ → Bool
-joins-entry p i = pick (leb 2 (instruction-kind p i)) false (eqb (expression-kind p (instruction-c p i)) 12)
-
-module _ (p l h t : List ℕ) (i : ℕ) where
-  -- what check and commit ask
-  pub record CanAssignJoin : Type 0 where
-    pub checks : ChecksInstruction p l h t i
-    pub commits : CanCommit p l h t i
-    pub joins : joins-entry p i ≡ true
-
-  -- and v and w are the values that it joins, which meet no end
-  pub record CanPutJoin (v w : Value) : Type 0 where
-    pub can : CanAssignJoin
-    pub first : gives v ≡ operand-value p h (expression-a p (instruction-c p i))
-    pub second : gives w ≡ operand-value p h (expression-b p (instruction-c p i))
-    pub end : 0 ≡ join-end p h v w
-
-  -- 0 made, else the end that it meets, and nothing is written
-  pub record JoinsOnce (r : ℕ) (h′ t′ : List ℕ) : Type 0 where
-    pub end : r ≡ end-met p l h t i
-    pub made : r ≡ 0 → Commits p l h t i h′ t′
-    pub kept : (r ≡ 0 → ⊥) → (h′ ≡ h) × (t′ ≡ t)

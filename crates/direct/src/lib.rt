@@ -1,4 +1,4 @@
-// An instruction that makes no frame and no text, and `:=` of a join after reserve, in one go: each operand is read once and each path walked once, and an end that is met leaves the words as they are.
+// An instruction that makes no frame and no text, in one go: each operand is read once and each path walked once, and an end that is met leaves the words as they are.
 // What became of it is a number: 0 it is made, 31 to 35 the end that it meets, 255 it is left, as it makes something or shows.
 use arith::Arithmetic;
 use framed::Text;
@@ -15,12 +15,10 @@ ghost use Rattle.tables.specs.declared.InstructionEntry.{InstructionEntry};
 ghost use Rattle.tables.specs.Fields.{instruction-a, instruction-b, instruction-c};
 ghost use Rattle.paths.specs.Paths.{fetched};
 ghost use Rattle.texts.specs.Texts.{Readable};
-ghost use Rattle.allocation.specs.Known.{TextsFull};
 ghost use Rattle.arith.specs.Arith.{outcome};
 ghost use Rattle.operands.specs.Operands.{operand-value};
 ghost use Rattle.commit.specs.Commit.{root-of, set-root, CanJump, assignment};
 ghost use Rattle.direct.specs.Direct.{of-base, of-not, of-product, operation-given, expression-given, PutsSlot, Puts, PutsFrom, JumpsOnce, CanDo, CanDoEntry, Does};
-ghost use Rattle.direct.specs.Direct.{joins-entry, CanAssignJoin, CanPutJoin, JoinsOnce};
 
 // The value of an expression that makes nothing, the end that it meets, or that it makes something.
 pub enum Given {
@@ -225,75 +223,4 @@ pub fn direct<'a>(p: &[u32], l: &'a [u8], h: &mut [u32], t: &'a [u8], i: u32) ->
         InstructionEntry::Ifeq(a, c, d) => branch(p, l, h, t, i, a, c, d),
         InstructionEntry::Bad => 255,
     }
-}
-
-// Instruction i assigns a join.
-pub fn joins(p: &[u32], i: u32) -> bool
-    ensures { λ r. ⌜ r ≡ joins-entry (now (p .entry)) i ⌝ }
-{
-    if 2 <= tables::instruction_kind(p, i) {
-        return false;
-    }
-    tables::expression_kind(p, tables::instruction_c(p, i)) == 12
-}
-
-// The join of v and w, put at the path of instruction i. The path's end is looked for before anything is written; every made text below `least` is in use.
-fn put_join(
-    p: &[u32],
-    l: &[u8],
-    h: &mut [u32],
-    t: &mut [u8],
-    i: u32,
-    v: Value,
-    w: Value,
-    least: u32,
-) -> u32
-    requires { ⌜ CanPutJoin (now p) (now l) (now h) (now t) i v w ⌝ }
-    requires { ⌜ TextsFull (now h) least ⌝ }
-    ensures { λ r. ⌜ JoinsOnce (now (p .entry)) (now (l .entry)) (now (h .entry)) (now (t .entry)) i r (now (h .exit)) (now (t .exit)) ⌝ }
-{
-    let own = tables::instruction_kind(p, i) == 0;
-    let j = tables::instruction_a(p, i);
-    let names = tables::instruction_b(p, i);
-    if names == 0 {
-        let u = producing::join(p, l, h, t, v, w, least);
-        commit::set_root(h, own, u);
-        commit::go_on(p, h, i);
-        return 0;
-    }
-    let PutTarget::At(f, name) = puts::put_target(p, h, commit::root(h, own), j, names) else {
-        return 31;
-    };
-    let full = puts::slot_end(h, f, name);
-    if full != 0 {
-        return full;
-    }
-    let u = producing::join(p, l, h, t, v, w, least);
-    puts::put_slot(h, f, name, u);
-    commit::go_on(p, h, i);
-    0
-}
-
-// `:=` of a join, after reserve; every made text below `least` is in use.
-pub fn assign_join(p: &[u32], l: &[u8], h: &mut [u32], t: &mut [u8], i: u32, least: u32) -> u32
-    requires { ⌜ CanAssignJoin (now p) (now l) (now h) (now t) i ⌝ }
-    requires { ⌜ TextsFull (now h) least ⌝ }
-    ensures { λ r. ⌜ JoinsOnce (now (p .entry)) (now (l .entry)) (now (h .entry)) (now (t .entry)) i r (now (h .exit)) (now (t .exit)) ⌝ }
-{
-    let x = tables::instruction_c(p, i);
-    let m = operands::operand_number(p, h, tables::expression_a(p, x));
-    if m == 5 {
-        return 31;
-    }
-    let n = operands::operand_number(p, h, tables::expression_b(p, x));
-    if n == 5 {
-        return 31;
-    }
-    let v = operands::value(m);
-    let w = operands::value(n);
-    let met = joining::join_end(p, h, v, w);
-    if met != 0 {
-        return met;
-    }
-    put_join(p, l, h, t, i, v, w, least)
 }

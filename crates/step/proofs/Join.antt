@@ -7,8 +7,8 @@ use Rattle.heap.specs.Words.{set-end-mark}
 use Rattle.allocation.specs.declared.Known.{Known}
 use Rattle.allocation.specs.Known.{Knows}
 use Rattle.commit.specs.Words.{WordsFit}
-use Rattle.direct.specs.Direct.{joins-entry, CanAssignJoin, JoinsOnce}
-use Rattle.direct.proofs.Join.{join-form, join-no-show}
+use Rattle.step_join.specs.Join.{joins-entry, CanAssignJoin, JoinsOnce}
+use Rattle.step_join.proofs.Laws.{join-form, join-no-show}
 use Rattle.step.specs.declared.Outcome.{Outcome}
 use Rattle.step.specs.Step.{RoomFor, CanStep, AttemptsQuietly}
 use Rattle.step.proofs.Room.{room-checks, room-commits, ended-quietly, ended-then-knows, made-quietly, made-then-knows}

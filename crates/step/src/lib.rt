@@ -9,7 +9,8 @@ ghost use Rattle.step.specs.Step.{frames-for, texts-for};
 ghost use Rattle.allocation.specs.Known.{Knows};
 ghost use Rattle.reserving.specs.Reserving.{Reserves, Reckons};
 ghost use Rattle.checking.specs.Checking.{AssignsOrShows};
-ghost use Rattle.direct.specs.Direct.{MakesOrShows, joins-entry};
+ghost use Rattle.direct.specs.Direct.{MakesOrShows};
+ghost use Rattle.step_join.specs.Join.{joins-entry};
 
 // What became of the line of an instruction: its size, where there was space for it.
 pub enum Shown {
@@ -115,7 +116,7 @@ fn joined(p: &[u32], l: &[u8], h: &mut [u32], t: &mut [u8], i: u32, k: Known) ->
     ensures exact { λ r. ⌜ AttemptsQuietly (now (p .entry)) (now (l .entry)) (now (h .entry)) (now (t .entry)) i (r .outcome) (now (h .exit)) (now (t .exit)) ⌝ }
     ensures knows { λ r. ⌜ Knows (now (h .exit)) 0 0 (r .known) ⌝ }
 {
-    let met = direct::assign_join(p, l, h, t, i, k.least);
+    let met = step_join::assign_join(p, l, h, t, i, k.least);
     if met != 0 {
         heap::set_end_mark(h, met);
         return Tried {
@@ -156,7 +157,7 @@ fn reserved(
             known: known,
         };
     }
-    if direct::joins(p, i) {
+    if step_join::joins(p, i) {
         return joined(p, l, h, t, i, known);
     }
     in_parts(p, l, h, t, i, out, used, known)

@@ -5,8 +5,8 @@ use Rattle.check_source.proofs.check.Tie as tie
 use Rattle.check_source.proofs.check.Reads as reads
 use Rattle.check_source.proofs.check.Lts as lts
 use Rattle.check_source.proofs.answer.Reads as answer-reads
-use Rattle.check_source.proofs.lengths_refusal.Reads as lengths-refusal-reads
-use Rattle.check_source.proofs.limits_refusal.Reads as limits-refusal-reads
+use Rattle.limits.proofs.lengths_refusal.Reads as lengths-refusal-reads
+use Rattle.limits.proofs.limits_refusal.Reads as limits-refusal-reads
 use Rattle.check_source.proofs.source_refusal.Reads as source-refusal-reads
 
 -- src/lib.rt:174:9

@@ -6,7 +6,7 @@ use Rattle.step.proofs.joined.Statement.{statement}
 use Rattle.step.proofs.joined.Tie as tie
 use Rattle.step.proofs.joined.Reads as reads
 use Rattle.step.proofs.joined.Lts as lts
-use Rattle.direct.proofs.assign_join.Reads as assign-join-reads
+use Rattle.step_join.proofs.assign_join.Reads as assign-join-reads
 use Rattle.heap.proofs.set_end_mark.Reads as set-end-mark-reads
 
 -- src/lib.rt:116:9

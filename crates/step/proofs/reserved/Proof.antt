@@ -7,7 +7,7 @@ use Rattle.step.proofs.reserved.Statement.{statement}
 use Rattle.step.proofs.reserved.Tie as tie
 use Rattle.step.proofs.reserved.Reads as reads
 use Rattle.step.proofs.reserved.Lts as lts
-use Rattle.direct.proofs.joins.Reads as joins-reads
+use Rattle.step_join.proofs.joins.Reads as joins-reads
 use Rattle.heap.proofs.set_end_mark.Reads as set-end-mark-reads
 use Rattle.step.proofs.in_parts.Reads as in-parts-reads
 use Rattle.step.proofs.joined.Reads as joined-reads

@@ -1,10 +1,10 @@
-use Rattle.direct.proofs.Join.{number-first, number-second, number-met, number-on}
+use Rattle.step_join.proofs.Laws.{number-first, number-second, number-met, number-on}
 use borrow.Author.Needs.{needs}
-use Rattle.direct.proofs.assign_join.Statement.{statement}
-use Rattle.direct.proofs.assign_join.Tie as tie
-use Rattle.direct.proofs.assign_join.Reads as reads
-use Rattle.direct.proofs.assign_join.Lts as lts
-use Rattle.direct.proofs.put_join.Reads as put-join-reads
+use Rattle.step_join.proofs.assign_join.Statement.{statement}
+use Rattle.step_join.proofs.assign_join.Tie as tie
+use Rattle.step_join.proofs.assign_join.Reads as reads
+use Rattle.step_join.proofs.assign_join.Lts as lts
+use Rattle.step_join.proofs.put_join.Reads as put-join-reads
 use Rattle.joining.proofs.join_end.Reads as join-end-reads
 use Rattle.operands.proofs.operand_number.Reads as operand-number-reads
 use Rattle.operands.proofs.value.Reads as value-reads

@@ -1,9 +1,9 @@
-use Rattle.direct.proofs.Join.{joins-other, joins-by-kind}
+use Rattle.step_join.proofs.Laws.{joins-other, joins-by-kind}
 use borrow.Author.Needs.{needs}
-use Rattle.direct.proofs.joins.Statement.{statement}
-use Rattle.direct.proofs.joins.Tie as tie
-use Rattle.direct.proofs.joins.Reads as reads
-use Rattle.direct.proofs.joins.Lts as lts
+use Rattle.step_join.proofs.joins.Statement.{statement}
+use Rattle.step_join.proofs.joins.Tie as tie
+use Rattle.step_join.proofs.joins.Reads as reads
+use Rattle.step_join.proofs.joins.Lts as lts
 use Rattle.tables.proofs.expression_kind.Reads as expression-kind-reads
 use Rattle.tables.proofs.instruction_c.Reads as instruction-c-reads
 use Rattle.tables.proofs.instruction_kind.Reads as instruction-kind-reads

@@ -1,6 +1,6 @@
-use Rattle.check_source.proofs.Laws.{length-1, length-2, length-3, length-4, length-5}
-use Rattle.check_source.proofs.lengths_refusal.Statement.{statement}
-use Rattle.check_source.proofs.lengths_refusal.Tie as tie
+use Rattle.limits.proofs.Arguments.{length-1, length-2, length-3, length-4, length-5}
+use Rattle.limits.proofs.lengths_refusal.Statement.{statement}
+use Rattle.limits.proofs.lengths_refusal.Tie as tie
 
 returns : tie.Need-returns
 returns c = search length-1

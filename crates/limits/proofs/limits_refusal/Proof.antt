@@ -1,6 +1,6 @@
-use Rattle.check_source.proofs.Laws.{limits-1, limits-2, limits-3, limits-4, limits-5}
-use Rattle.check_source.proofs.limits_refusal.Statement.{statement}
-use Rattle.check_source.proofs.limits_refusal.Tie as tie
+use Rattle.limits.proofs.Arguments.{limits-1, limits-2, limits-3, limits-4, limits-5}
+use Rattle.limits.proofs.limits_refusal.Statement.{statement}
+use Rattle.limits.proofs.limits_refusal.Tie as tie
 
 returns : tie.Need-returns
 returns c = search limits-1

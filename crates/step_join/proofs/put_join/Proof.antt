@@ -1,9 +1,9 @@
-use Rattle.direct.proofs.Join.{can-join, join-set, join-nowhere, join-full, join-put}
+use Rattle.step_join.proofs.Laws.{can-join, join-set, join-nowhere, join-full, join-put}
 use borrow.Author.Needs.{needs}
-use Rattle.direct.proofs.put_join.Statement.{statement}
-use Rattle.direct.proofs.put_join.Tie as tie
-use Rattle.direct.proofs.put_join.Reads as reads
-use Rattle.direct.proofs.put_join.Lts as lts
+use Rattle.step_join.proofs.put_join.Statement.{statement}
+use Rattle.step_join.proofs.put_join.Tie as tie
+use Rattle.step_join.proofs.put_join.Reads as reads
+use Rattle.step_join.proofs.put_join.Lts as lts
 use Rattle.commit.proofs.go_on.Reads as go-on-reads
 use Rattle.commit.proofs.root.Reads as root-reads
 use Rattle.commit.proofs.set_root.Reads as set-root-reads
