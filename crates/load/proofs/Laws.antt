@@ -19,6 +19,7 @@ use Rattle.shapes.proofs.Accepted.{accepted-shaped}
 use Rattle.emission.specs.Emit.{cleared, program-words, literal-bytes}
 use Rattle.emission_tree.proofs.Whole.{program-at}
 use Rattle.emission_accepted.proofs.Kept.{accepted-kept}
+use Rattle.limits.specs.Arguments as arguments
 use Rattle.check_source.specs.Numbers as check
 use Rattle.accepted.specs.Accepted.{Accepted}
 use Rattle.accepted.proofs.Accepted.{accepted-sources}
@@ -130,7 +131,7 @@ unfolding load-call loading-by loading-of
 call-loads m source F T q e pr = rw (e, pr)
 
 -- the answer of the check
-module _ (source : List ℕ) (F T : ℕ) (p h l x : List ℕ) (r : LoadAnswer) (checked : load-number r ≡ refusal (check.lengths (length p) (length h) (length l) (length x)) source F T) where
+module _ (source : List ℕ) (F T : ℕ) (p h l x : List ℕ) (r : LoadAnswer) (checked : load-number r ≡ refusal (arguments.lengths (length p) (length h) (length l) (length x)) source F T) where
   e : load-number r ≡ refusal (lengths (memories p h l x)) source F T
   unfolding lengths
   e = checked
