@@ -10,7 +10,7 @@ use native.Mathlib.Nat.{le-of-suc-le-suc, not-suc-le-zero}
 use native.Mathlib.Decide.{ℕ-discrete}
 use native.Mathlib.Omega.{arith}
 use lib.ListN.{length, getElem?, getD, set}
-use Rattle.framed.specs.Common.{member, any, has-twice}
+use Rattle.framed.specs.Common.{member, has-twice}
 use Rattle.framed.proofs.General.{none≢some}
 use Rattle.framed.proofs.ReachCounts.{cons-cases, here, there, nothing-in}
 use Rattle.bounded.specs.Views.{add-if, defined-below, used}

@@ -6,8 +6,6 @@ use Prim.Native.Nat.{ℕ}
 use borrow.Author.Tests.{not-true, not-false}
 use Rattle.framed.specs.declared.CollectAnswer.{CollectAnswer}
 use Rattle.framed.specs.declared.Totals.{Totals}
-use Rattle.framed.specs.declared.Text.{Text}
-use Rattle.framed.specs.declared.Value.{Value}
 use Rattle.framed.specs.Answers.{Report}
 use Rattle.framed.specs.Calls.{frame-total, text-total}
 use Rattle.heap.specs.Closed.{Closed}

@@ -1,7 +1,7 @@
 -- The header and the rest of the state, one update after another. Assumes nothing.
-use Prim.Native.Nat.{ℕ, zero, suc, _≤_, _<_}
-use mathlib.Core.Path.{_≡_, refl, _∙_, ap, sym}
-use mathlib.Core.List.{List, [], _∷_}
+use Prim.Native.Nat.{ℕ, _≤_}
+use mathlib.Core.Path.{_≡_, refl, _∙_, ap}
+use mathlib.Core.List.{List}
 use native.Mathlib.Omega.{arith}
 use lib.ListN.{length}
 use lib.Dec.{leb}
@@ -13,18 +13,17 @@ use Rattle.framed.specs.Tree.{Code}
 use Rattle.framed.specs.Paths.{Path}
 use Rattle.framed.specs.Machine.{Result, gives, ends}
 use Rattle.tables.specs.Fields.{instructions}
-use Rattle.heap.specs.Words.{self-held, program-held, position, end-mark, set-self, set-program, set-position, slot-count-at, set-slot-value, add-slot-at, add-slot}
+use Rattle.heap.specs.Words.{position, end-mark, set-self, set-program, set-position, slot-count-at, set-slot-value, add-slot-at, add-slot}
 use Rattle.heap.specs.Held.{slots-held}
-use Rattle.heap.proofs.Laws.{Same, same-part, same-self, same-program, same-position, same-end-mark, set-self-local, set-program-local, set-position-local}
+use Rattle.heap.proofs.Laws.{same-part, same-self, same-program, same-position, same-end-mark, set-self-local, set-program-local, set-position-local}
 use Rattle.paths.specs.declared.SlotFound.{SlotFound}
 use Rattle.paths.specs.Paths.{slot-from}
 use Rattle.puts.specs.Puts.{put-found, put-slot}
-use Rattle.state_form.specs.declared.Limits.{Limits}
 use Rattle.bounded.specs.Check.{Target}
 use Rattle.bounded.specs.Bounded.{Bounded, over-store, assign-at}
 use Rattle.word_store.specs.Store.{Memories, word-store}
-use Rattle.word_store.specs.State.{store-held, state-held, HeldAfter, HeaderFormed, HeaderAfter}
-use Rattle.word_store.proofs.Updates.{KeepsHeader, keeps-all, keeps-put, held-after, header-after}
+use Rattle.word_store.specs.State.{store-held, state-held}
+use Rattle.word_store.proofs.Updates.{keeps-all, keeps-put, held-after, header-after}
 use Rattle.producing.specs.Producing.{HeaderKept}
 use Rattle.producing.proofs.Leaves.{header-kept}
 use Rattle.evaluation.proofs.Stores.{as-same}

@@ -1,7 +1,7 @@
 -- The rules of emission hold. Assumes nothing.
 use mathlib.Core.Path.{_≡_, refl, sym, subst}
 use mathlib.Core.List.{List}
-use Prim.Native.Nat.{ℕ, _≤_, _<_}
+use Prim.Native.Nat.{ℕ, _≤_}
 use native.Mathlib.Omega.{arith}
 use Rattle.shapes.specs.Numbers.{Numbers, _⊕_}
 use Rattle.emission.specs.Emit.{Emitting, emitting}

@@ -5,7 +5,7 @@ use mathlib.Core.List.{List}
 use Prim.Native.Nat.{ℕ, suc, _+_, _≤_, _<_}
 use native.Mathlib.Omega.{arith}
 use lib.ListN.{length}
-use Rattle.framed.specs.Tree.{Base, Expression, Slots, Instruction, Code, _then_}
+use Rattle.framed.specs.Tree.{Base, Expression, Instruction, Code, _then_}
 use Rattle.framed.specs.Paths.{Path, from-self, from-program, names-of}
 use Rattle.tables.specs.declared.ExpressionEntry.{ExpressionEntry}
 use Rattle.tables.specs.declared.InstructionEntry.{InstructionEntry}
@@ -13,8 +13,8 @@ use Rattle.tables.specs.Entries.{expression-at, instruction-at}
 use Rattle.tables.specs.Fields.{literals, expressions, instructions, codes, path-names, link, slot-walk, instruction-link}
 use Rattle.program_entries.specs.Form.{ExpressionForm, InstructionForm, SlotList}
 use Rattle.program_entries.specs.Form as Form
-use Rattle.shapes.specs.Numbers.{Numbers, _⊕_, base-size, expression-size, slots-size, instruction-size, code-size}
-use Rattle.emission.specs.Emit.{link-to-slots, link-to-code, path-entry, assign-entry}
+use Rattle.shapes.specs.Numbers.{Numbers, _⊕_, base-size, expression-size, instruction-size, code-size}
+use Rattle.emission.specs.Emit.{link-to-code, path-entry, assign-entry}
 use Rattle.emission.specs.Frame.{AtMost}
 use Rattle.emission.specs.Writes.{past-base}
 use Rattle.emission_tree.specs.Standing.{Owner, tag, Standing}

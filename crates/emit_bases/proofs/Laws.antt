@@ -1,15 +1,12 @@
 -- Laws of a path as an expression. Assumes nothing.
-use mathlib.Core.Path.{_≡_, refl, sym, ap, _∙_}
-use mathlib.Core.Bool.{Bool, true, false}
-use mathlib.Core.List.{List, [], _∷_}
-use Prim.Native.Nat.{ℕ, _+_, _-_, _<_, _≤_}
+use mathlib.Core.Path.{_≡_, refl, ap, _∙_}
+use mathlib.Core.List.{List}
+use Prim.Native.Nat.{ℕ, _+_, _-_}
 use native.Mathlib.Omega.{arith}
-use lib.Dec.{eqb}
 use lib.ListN.{length}
 use borrow.Author.Tests.{eq-eqb, ne-eqb}
-use Rattle.framed.specs.Common.{if_then_else_}
 use Rattle.framed.specs.Symbols.{Symbol}
-use Rattle.framed.specs.Tree.{Written, Base}
+use Rattle.framed.specs.Tree.{Written}
 use Rattle.framed.specs.Grammar.{Path⊢}
 use Rattle.framed.specs.Paths.{Path, names-of, resolve-path}
 use Rattle.sweep.specs.Kinds.{kind-of, front-kind}

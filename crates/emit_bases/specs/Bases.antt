@@ -1,5 +1,4 @@
 -- docs/LAYOUT.md, expressions: a path of the source as an expression entry. Assumes nothing.
-use mathlib.Core.Bool.{Bool, true, false}
 use Prim.Native.Nat.{ℕ}
 use lib.Dec.{eqb}
 use Rattle.framed.specs.Common.{if_then_else_}

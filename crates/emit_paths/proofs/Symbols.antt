@@ -4,7 +4,7 @@ use mathlib.Core.Bool.{Bool, true, false}
 use mathlib.Core.List.{List, [], _∷_}
 use lib.Dec.{eqb}
 use borrow.Author.Tests.{eqb-true, eqb-false}
-use Prim.Native.Nat.{ℕ, zero, suc, _+_, _<_, _≤_}
+use Prim.Native.Nat.{ℕ, suc, _+_, _<_, _≤_}
 use native.Mathlib.Omega.{arith}
 use lib.ListN.{length}
 use Rattle.framed.specs.Bytes.{class}
@@ -22,7 +22,7 @@ use Rattle.grammar.specs.declared.Seen.{Seen}
 use Rattle.grammar.proofs.Paths.{moved}
 use Rattle.names.specs.Kept.{table-of}
 use Rattle.emit_names.specs.Table.{NumberAt}
-use Rattle.emit_steps.specs.Steps.{first-kind, Past, Pass, PassTwo, go-to}
+use Rattle.emit_steps.specs.Steps.{first-kind, Pass, PassTwo, go-to}
 use Rattle.emit_steps.specs.declared.Next.{Next}
 use Rattle.emit_paths.specs.Emits.{Ahead, NoUp}
 

@@ -8,7 +8,6 @@ use lib.ListN.{length, set}
 use types.Run.{OneOf, miss}
 use denote.Enum.Declared.{tagOf}
 use borrow.Author.Tests.{lt-ltb, le-ltb}
-use Rattle.framed.specs.Common.{if_then_else_}
 use Rattle.framed.specs.Bytes.{class}
 use Rattle.framed.specs.Tokens.{Token, Tokens⊢, end, token, next}
 use Rattle.framed.proofs.TokensExact.{end≢token, no-token≢token, rest-inj}

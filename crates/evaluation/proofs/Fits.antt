@@ -1,6 +1,6 @@
 -- Every value that an expression gives has an integer of 32 bits. Assumes nothing.
 use Prim.Native.Nat.{ℕ, _≤_, _<_}
-use mathlib.Core.Path.{_≡_, refl, _∙_, ap, sym}
+use mathlib.Core.Path.{_≡_, refl}
 use mathlib.Core.Bool.{Bool, true, false}
 use mathlib.Core.List.{List, [], _∷_}
 use mathlib.Core.Option.{Option, none, some}
@@ -19,13 +19,12 @@ use Rattle.framed.specs.Values.{bit}
 use Rattle.framed.specs.Fetch as F
 use Rattle.framed.specs.Fetch.{get, frame-of, fetch}
 use Rattle.framed.specs.Tokens.{in-range}
-use Rattle.framed.specs.Machine.{Result, gives, ends, defined, base-value}
+use Rattle.framed.specs.Machine.{Result, defined, base-value}
 use Rattle.tables.specs.declared.ExpressionEntry.{ExpressionEntry}
 use Rattle.tables.specs.Entries.{expression-at}
 use Rattle.tables.specs.Fields.{expressions}
 use Rattle.program_form.specs.WellFormed.{WellFormed}
 use Rattle.trees.specs.Trees.{Readers, base-tree}
-use Rattle.trees.specs.Held.{base-held, OneLevel}
 use Rattle.trees.proofs.Held.{one-level-held}
 use Rattle.heap.specs.Words.{self-held, program-held, frame-used, slot-value-at}
 use Rattle.heap.specs.Held.{slots-held, frames-held}
@@ -35,9 +34,8 @@ use Rattle.paths.specs.declared.SlotFound.{SlotFound}
 use Rattle.paths.specs.Paths.{slot-from}
 use Rattle.paths.proofs.Laws.{get-past, get-free, get-missing, get-found}
 use Rattle.operands.specs.Operands.{operand-value}
-use Rattle.bounded.specs.Operations.{Product, number, text}
-use Rattle.bounded.specs.Store.{Store}
-use Rattle.bounded.specs.Bounded.{value-given, Produced, produce}
+use Rattle.bounded.specs.Operations.{Product}
+use Rattle.bounded.specs.Bounded.{value-given, produce}
 use Rattle.word_store.specs.Store.{Memories, word-store}
 use Rattle.producing.proofs.Operated.{Modest, an-end, a-number, a-text}
 

@@ -1,16 +1,14 @@
 -- `Parse.parse` agrees with the grammar: it gives the slots `ss` exactly when the symbols are one frame with these slots.
 -- Assumes nothing.
-use mathlib.Core.Path.{_≡_, refl, sym, _∙_, ap, subst}
-use mathlib.Core.Logic.{_≢_, _⊎_, inl, inr, _↔_}
+use mathlib.Core.Path.{_≡_, refl, sym, _∙_, ap}
+use mathlib.Core.Logic.{_↔_}
 use mathlib.Core.Bool.{Bool, true, false, not}
 use mathlib.Core.List.{List, [], _∷_}
-use mathlib.Core.Option.{Option, none, some}
+use mathlib.Core.Option.{none, some}
 use Prim.Native.Nat.{ℕ, zero, suc, _+_, _≤_, _<_}
 use native.Mathlib.Omega.{arith}
-use native.Mathlib.Bridge.{le-by-compare, IsLe}
-use lib.IntN.{ℤ}
 use lib.ListN.{length, getD, replicate, length-replicate}
-use lib.Dec.{T, eqb, eqb→eq}
+use lib.Dec.{eqb, eqb→eq}
 use Rattle.framed.specs.Common.{if_then_else_}
 use Rattle.framed.specs.Tokens.{Fixed, Operator}
 use Rattle.framed.specs.Symbols.{Symbol, fixed}

@@ -2,7 +2,7 @@
 -- in sight. For every class of bytes. Assumes nothing.
 use mathlib.Core.Path.{_≡_, refl, sym, _∙_, ap}
 use mathlib.Core.Logic.{_↔_}
-use mathlib.Core.Bool.{Bool, true, false, _||_, _&&_}
+use mathlib.Core.Bool.{Bool, true, false, _&&_}
 use mathlib.Core.List.{List, [], _∷_}
 use mathlib.Core.Option.{Option, none, some}
 use Prim.Native.Nat.{ℕ, zero, suc, _≤_, _<_}
@@ -11,7 +11,7 @@ use lib.ListN.{length}
 use lib.IntN.{ℤ}
 use lib.Dec.{leb}
 use Rattle.framed.specs.Common.{if_then_else_, is, after, starts, past-first}
-use Rattle.framed.specs.Bytes.{Classes, space, letter, digit, name-byte, string-byte}
+use Rattle.framed.specs.Bytes.{Classes, space, letter, digit}
 use Rattle.framed.specs.Tokens.{Token, tokens, in-range, Read, end, no-token, token, skip, skip-comment, read-name, read-integer, read-string, two-bytes, read-mark, read, next, prepend, tokens-within, Tokens⊢}
 use Rattle.framed.specs.Theorems.{TokensExact}
 use Rattle.framed.proofs.General.{none≢some, some-inj}

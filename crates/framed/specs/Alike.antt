@@ -1,13 +1,13 @@
 -- Document 01, "The endless machine", last paragraph: when two states are alike, under a one-to-one renaming of the reachable frames
 -- (the same slot names, values alike) and made texts (the same bytes). Assumes nothing.
 use mathlib.Core.Path.{_≡_}
-use mathlib.Core.List.{List, [], _∷_, map}
+use mathlib.Core.List.{map}
 use mathlib.Core.Option.{Option, none, some}
 use Prim.Native.Nat.{ℕ}
 use lib.ListN.{getElem?}
 use Rattle.framed.specs.declared.Value.{Value}
 use Rattle.framed.specs.declared.Text.{Text}
-use Rattle.framed.specs.Values.{Slot, Frame, Heap, with-slots}
+use Rattle.framed.specs.Values.{Slot, Frame, with-slots}
 use Rattle.framed.specs.Reach.{Reachable}
 use Rattle.framed.specs.Machine.{State}
 

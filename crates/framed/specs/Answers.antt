@@ -6,9 +6,7 @@ use lib.IntN.{ℤ}
 use lib.ListN.{take}
 use Rattle.framed.specs.declared.LoadAnswer.{LoadAnswer}
 use Rattle.framed.specs.declared.Stop.{Stop}
-use Rattle.framed.specs.declared.RunReport.{RunReport}
 use Rattle.framed.specs.declared.RunAnswer.{RunAnswer}
-use Rattle.framed.specs.declared.Totals.{Totals}
 use Rattle.framed.specs.declared.CollectAnswer.{CollectAnswer}
 use Rattle.framed.specs.declared.LookAnswer.{LookAnswer}
 

@@ -17,7 +17,7 @@ use Rattle.framed.specs.Program.{Program}
 use Rattle.framed.specs.Values.{text-bytes}
 use Rattle.framed.specs.Fetch.{fetch}
 use Rattle.framed.specs.Reach.{roots, reached-frames, reached-texts}
-use Rattle.framed.specs.Machine.{State, Effect, Result, gives, ends, step, after-step, marked, start}
+use Rattle.framed.specs.Machine.{State, Effect, gives, ends, step, after-step, marked, start}
 use Rattle.framed.specs.Judgments.{Fetch⇒}
 use Rattle.framed.specs.Answers.{Stopped, Report, Look}
 

@@ -1,6 +1,6 @@
 -- Document 01, "The endless machine", step 2: Fetch. An empty path gives the value itself, else the value must be a frame holding the name.
 -- `none` is "undefined", as of 001's getH and getF. Assumes nothing.
-use mathlib.Core.Bool.{Bool, true, false}
+use mathlib.Core.Bool.{true, false}
 use mathlib.Core.List.{List, [], _∷_}
 use mathlib.Core.Option.{Option, none, some}
 use Prim.Native.Nat.{ℕ}

@@ -4,7 +4,7 @@
 use mathlib.Core.List.{List, [], _∷_, _++_}
 use mathlib.Core.Option.{Option, none, some}
 use Prim.Native.Nat.{ℕ, zero, suc}
-use lib.IntN.{ℤ, pos}
+use lib.IntN.{pos}
 use Rattle.framed.specs.Common.{bytes, Common}
 use Rattle.framed.specs.Bytes.{Bytes}
 use Rattle.framed.specs.Tokens.{Tokens}

@@ -1,7 +1,6 @@
 -- Document 01: reachable are Σ, Π and every value in a slot of a reachable frame.
 -- As a relation, `Reachable`; and as lists, the reachable frames and made texts, each once. That the two agree is `Theorems.ReachCounts`.
 -- Assumes nothing.
-use mathlib.Core.Bool.{Bool, true, false}
 use mathlib.Core.List.{List, [], _∷_, _++_, map, List·Memᴰ}
 use mathlib.Core.Option.{Option, none, some}
 use Prim.Native.Nat.{ℕ, zero, suc, _+_}
@@ -9,7 +8,7 @@ use lib.ListN.{length, getD}
 use Rattle.framed.specs.declared.Value.{Value}
 use Rattle.framed.specs.declared.Text.{Text}
 use Rattle.framed.specs.Common.{if_then_else_, member, distinct, total}
-use Rattle.framed.specs.Values.{Slot, Frame, Heap, new-frame}
+use Rattle.framed.specs.Values.{Slot, Frame, new-frame}
 
 -- the values in the slots of a frame number
 unfoldable pub slot-value : Slot → Value

@@ -9,7 +9,7 @@ use lib.ListN.{getD}
 use lib.Dec.{eqb, ltb}
 use Rattle.framed.specs.declared.Value.{Value}
 use Rattle.framed.specs.declared.Text.{Text}
-use Rattle.framed.specs.Common.{if_then_else_, bytes, same}
+use Rattle.framed.specs.Common.{bytes, same}
 
 -- A slot has the number of its name, and a value; a frame has its slots, in the order in which they were added
 pub record Slot : Type 0 where

@@ -12,7 +12,6 @@ use native.Mathlib.Numerals.{add-one}
 use lib.ListN.{length, getD, set, getElem?}
 use lib.Seq.{set-getD}
 use borrow.Author.Tests.{ne-eqb}
-use Rattle.words.specs.Words.{word}
 use Rattle.framed.specs.declared.Value.{Value}
 use Rattle.framed.specs.Values.{Slot, Frame, new-frame}
 use Rattle.framed.specs.Common.{has-twice}

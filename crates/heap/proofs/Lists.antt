@@ -179,6 +179,15 @@ module _ (t : ℕ → Bool) where
   unfolding passing
   passing-no n e = rw e
 
+  pub passing-few : (n : ℕ) → length (passing t n) ≤ n
+  unfolding passing
+  passing-few zero = omega arith
+  passing-few (suc n) = go (t n) (passing-few n)
+    where
+      go : (b : Bool) → length (passing t n) ≤ n → length (pick b (n ∷ passing t n) (passing t n)) ≤ suc n
+      go true few = omega arith
+      go false few = omega arith
+
   pub passing-means : (n k : ℕ) → k ∈ passing t n → (k < n) × (t k ≡ true)
   unfolding passing
   passing-means zero k h = absurd (nothing-in k h)

@@ -21,9 +21,8 @@ use Rattle.framed.specs.Machine.{Effect, Result, gives, ends, step}
 use Rattle.framed.specs.Answers.{load-number, Stopped, stop-word, run-report}
 use Rattle.framed.specs.Calls.{Unbounded, at-start, advanced, ended, attempted, Position, at-end, before, position, Ran, stopped, one-more, run, frame-total, text-total}
 use Rattle.framed.specs.Framerun.{right-memories, number, stop-bytes, last-line, printed, framerun}
-use Rattle.heap.specs.Lists.{passing}
 use Rattle.heap.specs.Held.{frames-in-use, texts-in-use}
-use Rattle.words.specs.Words.{pick}
+use Rattle.heap.proofs.Lists.{passing-few}
 use Rattle.bounded.proofs.UnboundedRuns.{unbounded-runs}
 use Rattle.load.specs.Load.{memories, loaded, load-call, HoldsStart}
 use Rattle.load.proofs.Theorems.{load-exact}
@@ -128,16 +127,6 @@ stop-steps-few r s is most early = go (stop-few s)
     go (inr four) = let n = number-few 5 (r .steps) (omega arith) in rw is (omega arith)
 
 -- ---- The last line
-
--- of the numbers below a bound no more than these pass a test
-passing-few : (t : ℕ → Bool) (n : ℕ) → length (passing t n) ≤ n
-unfolding passing
-passing-few t zero = omega arith
-passing-few t (suc n) = go (t n) (passing-few t n)
-  where
-    go : (b : Bool) → length (passing t n) ≤ n → length (pick b (n ∷ passing t n) (passing t n)) ≤ suc n
-    go true few = omega arith
-    go false few = omega arith
 
 frames-few : (h : List ℕ) → length (frames-in-use h) ≤ 256
 unfolding frames-in-use

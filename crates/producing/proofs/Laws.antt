@@ -38,7 +38,7 @@ use Rattle.word_store.specs.State.{store-held}
 use Rattle.operands.specs.Operands.{operand-value}
 use Rattle.operators.specs.declared.Operated.{Operated}
 use Rattle.operators.specs.Operators as operators
-use Rattle.operators.specs.Operators.{operator-of, operation}
+use Rattle.operators.specs.Operators.{operator-of}
 use Rattle.producing.specs.Producing.{HasRoom, Writable, made, read-entry, read-value, CanJoin, Joins, CanProduce, Produces, operation-held, Operates}
 use Rattle.producing.proofs.Operated.{Modest, a-text, operated-modest}
 use Rattle.producing.proofs.Leaves.{leaves-none, text-store, text-next, text-leaves}

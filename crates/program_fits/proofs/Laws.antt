@@ -1,15 +1,13 @@
 -- The program of well-formed words fits: by levels, from larger expression numbers to smaller ones, and from later instructions to earlier ones. Assumes nothing.
 use mathlib.Core.Path.{_≡_, refl, _∙_, ap, sym, subst}
-use mathlib.Core.Bool.{Bool, true, false}
+use mathlib.Core.Bool.{true, false}
 use mathlib.Core.Logic.{⊎-elim}
-use mathlib.Core.List.{List, [], _∷_, List·Memᴰ, List·Memᴰ·not-nil, List·Memᴰ·cases-cons}
+use mathlib.Core.List.{List, [], List·Memᴰ, List·Memᴰ·not-nil, List·Memᴰ·cases-cons}
 use Prim.Native.Nat.{ℕ, zero, suc, _+_, _^_, _≤_, _<_}
 use native.Mathlib.Omega.{arith}
 use native.Mathlib.Decide.{decLt}
-use lib.IntN.{ℤ}
 use lib.Signed.{mag}
 use lib.ListN.{length, getD, List·getD-eq-default}
-use lib.Dec.{eqb}
 use borrow.Author.Tests.{lt-ltb, ne-eqb}
 use mir.Syntax.{w32}
 use mir.Val.{SFits, toZ}
@@ -18,14 +16,14 @@ use Rattle.ints.proofs.Laws.{int-fits}
 use Rattle.framed.specs.Common.{any, member}
 use Rattle.framed.specs.Bytes.{string-byte}
 use Rattle.framed.specs.Tokens.{in-range}
-use Rattle.framed.specs.Tree.{Base, Expression, Slots, Instruction, Code, _then_}
+use Rattle.framed.specs.Tree.{Slots, Code}
 use Rattle.framed.specs.Paths.{Path, names-of}
 use Rattle.framed.specs.Meaning.{slot-names}
 use Rattle.framed.specs.Program.{Program}
 use Rattle.tables.specs.declared.ExpressionEntry.{ExpressionEntry}
 use Rattle.tables.specs.declared.InstructionEntry.{InstructionEntry}
 use Rattle.tables.specs.Entries.{expression-at, instruction-at}
-use Rattle.tables.specs.Fields.{names, literals, codes, expressions, instructions, path-names, path-name, code-first, literal-byte, literal-length, link, slot-name, slot-after, slot-walk, follow-slot, instruction-after}
+use Rattle.tables.specs.Fields.{names, literals, codes, expressions, instructions, path-names, code-first, literal-byte, literal-length, link, slot-name, slot-after, slot-walk, follow-slot, instruction-after}
 use Rattle.tables.proofs.Walks.{walk-suc, slots-larger}
 use Rattle.program_entries.specs.Form.{Entries, SlotList}
 use Rattle.program_form.specs.WellFormed.{WellFormed}
@@ -35,9 +33,9 @@ use Rattle.trees.specs.Trees.{base-tree, expression-tree, instruction-tree, pat
 use Rattle.trees.specs.Held.{base-held, expression-held, slots-held, instruction-held, remaining, held, list-from, literal-bytes, program-held, OneLevel}
 use Rattle.trees.proofs.Held.{list-length, one-level-held}
 use Rattle.wellformed.specs.WellFormed.{limits}
-use Rattle.bounded.specs.Fits.{NamesFit, BaseFits, ExpressionFits, SlotsFit, InstructionFits, CodeFits, ProgramFits, StringBytes}
+use Rattle.bounded.specs.Fits.{NamesFit, BaseFits, ExpressionFits, SlotsFit, InstructionFits, CodeFits, StringBytes}
 use Rattle.word_store.specs.Form.{LimitsOf}
-use Rattle.program_fits.specs.ProgramFits.{FitsHeld, WellFormedFits}
+use Rattle.program_fits.specs.ProgramFits.{WellFormedFits}
 
 module _ (p l : List ℕ) (w : WellFormed p l) where
   E : Entries p l

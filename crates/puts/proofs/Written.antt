@@ -1,6 +1,6 @@
 -- A slot that is added, and a slot that is put: what the view of the words then shows. Assumes nothing.
-use Prim.Native.Nat.{ℕ, _+_, _*_, _<_}
-use mathlib.Core.Path.{_≡_, sym}
+use Prim.Native.Nat.{ℕ, _+_, _<_}
+use mathlib.Core.Path.{_≡_}
 use mathlib.Core.Bool.{true}
 use mathlib.Core.List.{List, [], _∷_, _++_}
 use Rattle.framed.specs.declared.Value.{Value}
@@ -11,7 +11,7 @@ use Rattle.bounded.specs.Check.{has-place}
 use Rattle.heap.specs.Words.{frame-used, slot-count-at, add-slot}
 use Rattle.heap.specs.Held.{slots-held}
 use Rattle.heap.specs.Closed.{Sized, ValueFits}
-use Rattle.heap.proofs.Laws.{Local, add-slot-is, add-slot-local}
+use Rattle.heap.proofs.Laws.{add-slot-is, add-slot-local}
 use Rattle.heap.proofs.Held.{add-slot-frames, add-slot-texts}
 use Rattle.allocation.specs.Allocation.{view-held}
 use Rattle.allocation.proofs.Claims.{frame-rewritten}

@@ -1,15 +1,13 @@
 -- The run's definition follows the bounded machine's run. Assumes nothing.
 use Prim.Native.Nat.{ℕ, zero, suc, _+_, _-_, _≤_, _<_}
-use mathlib.Core.Path.{_≡_, refl, _∙_, ap, ap₂, sym, subst}
-use mathlib.Core.Logic.{_⊎_, inl, inr}
-use mathlib.Core.List.{List, [], _++_}
+use mathlib.Core.Path.{_≡_, refl, _∙_, ap, sym, subst}
+use mathlib.Core.Logic.{inr}
+use mathlib.Core.List.{List}
 use native.Mathlib.Omega.{arith}
 use lib.ListN.{length, length-append}
 use Rattle.framed.specs.declared.Stop.{Stop}
-use Rattle.framed.specs.Tree.{Instruction, Code, _then_}
-use Rattle.framed.specs.Paths.{Path}
 use Rattle.framed.specs.Answers.{Stopped, stop-word}
-use Rattle.framed.specs.Calls.{Position, at-end, before, position-in}
+use Rattle.framed.specs.Calls.{position-in}
 use Rattle.tables.specs.Fields.{frame-limit, text-limit, instructions, instruction-after}
 use Rattle.trees.specs.Held.{program-held, remaining, instruction-held}
 use Rattle.trees.proofs.Held.{one-level-held}
@@ -21,13 +19,12 @@ use Rattle.bounded.specs.Bounded.{Bounded, stopped, one-more}
 use Rattle.bounded.specs.Bounded as bounded
 use Rattle.bounded.specs.Theorems.{RunWays}
 use Rattle.bounded.proofs.Runs.{run-ways}
-use Rattle.word_store.specs.Store.{Memories, word-store}
+use Rattle.word_store.specs.Store.{word-store}
 use Rattle.word_store.specs.State.{state-held, HeaderFormed}
-use Rattle.running.specs.Running.{bounded-held, bounded-run, BoundedForm}
+use Rattle.running.specs.Running.{bounded-held, bounded-run}
 use Rattle.running.proofs.Laws.{bounded-form}
-use Rattle.step.specs.declared.Outcome.{Outcome}
-use Rattle.step.specs.Step.{Formed, CanStep, attempted, attempt-step}
-use Rattle.step_held.specs.StepHeld.{EndHeld, SpaceHeld, MadeHeld, AttemptHeld, ends, lacks-space, makes}
+use Rattle.step.specs.Step.{Formed, CanStep}
+use Rattle.step_held.specs.StepHeld.{AttemptHeld, ends, lacks-space, makes}
 use Rattle.step_held.proofs.Attempt.{step-held}
 use Rattle.run.specs.Run.{stop-of, Finished, finished, more-steps, by-outcome, after-attempt, run-from}
 use Rattle.run.specs.Loop.{FollowsRun, RunFollows}

@@ -2,7 +2,7 @@
 use Prim.Native.Nat.{ℕ, _+_, _-_, _≤_}
 use mathlib.Core.Path.{_≡_, refl, _∙_, ap, sym, subst}
 use mathlib.Core.Bool.{Bool, true, false, true≢false}
-use mathlib.Core.List.{List, [], _++_}
+use mathlib.Core.List.{List, _++_}
 use native.Mathlib.Omega.{arith}
 use lib.ListN.{length, take, drop}
 use lib.Seq.{take-append-seam, drop-append-seam}
@@ -10,21 +10,17 @@ use Rattle.words.specs.Words.{pick}
 use Rattle.framed.specs.declared.RunReport.{RunReport}
 use Rattle.framed.specs.declared.RunAnswer.{RunAnswer}
 use Rattle.framed.specs.Answers.{Stopped, stop-word, Report, run-report}
-use Rattle.framed.specs.Calls.{Unbounded, run}
-use Rattle.framed.specs.Alike.{Alike}
 use Rattle.tables.specs.Fields.{frame-limit, text-limit}
 use Rattle.trees.specs.Held.{program-held}
-use Rattle.splice.specs.Splice.{splice}
 use Rattle.splice.proofs.Laws.{splice-length, splice-fits}
 use Rattle.wellformed.specs.WellFormed.{WellFormed, well-formed}
-use Rattle.wellformed.specs.Held.{state-held}
 use Rattle.wellformed.proofs.Decides.{well-formed-decides}
 use Rattle.bounded.specs.Bounded as bounded
 use Rattle.bounded.proofs.Theorems.{bounded-calls}
 use Rattle.word_store.specs.Store.{word-store}
-use Rattle.running.specs.Running.{bounded-held, bounded-run, BoundedForm, Follows, Alongside}
+use Rattle.running.specs.Running.{bounded-held, bounded-run, Follows}
 use Rattle.running.proofs.Laws.{bounded-form, follows-leaves, follows-alongside}
-use Rattle.run.specs.Run.{Finished, run-from, Running, running, report-of, run-call, Ran, RunMeans, RunCallMeans}
+use Rattle.run.specs.Run.{Finished, run-from, running, report-of, run-call, Ran, RunMeans, RunCallMeans}
 use Rattle.run.specs.Loop.{FollowsRun}
 use Rattle.run.proofs.Follows.{run-follows}
 

@@ -1,18 +1,15 @@
 -- The run's definition, way by way, and the number of each stop. Assumes nothing.
-use Prim.Native.Nat.{ℕ, zero, suc, _+_, _≤_}
-use mathlib.Core.Path.{_≡_, refl, _∙_, ap, ap₂, sym}
+use Prim.Native.Nat.{ℕ, zero, suc, _≤_}
+use mathlib.Core.Path.{_≡_, ap, ap₂}
 use mathlib.Core.Logic.{_⊎_, inl, inr}
 use mathlib.Core.List.{List}
 use native.Mathlib.Omega.{arith}
 use native.Mathlib.Decide.{ℕ-discrete}
-use lib.Dec.{eqb}
-use borrow.Author.Tests.{eq-eqb, ne-eqb}
-use Rattle.words.specs.Words.{pick}
 use Rattle.framed.specs.declared.Stop.{Stop}
 use Rattle.framed.specs.Answers.{Stopped, stop-word}
 use Rattle.heap.specs.Words.{position, end-mark}
 use Rattle.step.specs.Step.{attempt-step}
-use Rattle.run.specs.Run.{stop-of, Finished, finished, more-steps, unless-ended, after-attempt, run-from}
+use Rattle.run.specs.Run.{stop-of, Finished, finished, unless-ended, after-attempt, run-from}
 
 -- ---- Stops
 

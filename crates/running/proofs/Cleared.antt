@@ -18,7 +18,7 @@ use Rattle.heap.specs.Words.{add-slot, take-text}
 use Rattle.bounded.specs.Check.{Target, Jump, target, jump-result, operation-result}
 use Rattle.bounded.specs.Operations.{Product, number, text}
 use Rattle.bounded.specs.Bounded.{Bounded, Produced, value-given, heap-in, make-room, reserved, ready, produce, evaluate, fill, assign-at, commit-assign, commit-jump, commit}
-use Rattle.word_store.specs.Store.{Memories, memories, clear-header, claim-frame, claim-text, collect-rooted, word-store}
+use Rattle.word_store.specs.Store.{Memories, claim-frame, claim-text, collect-rooted, word-store}
 use Rattle.word_store.specs.State.{store-held}
 use Rattle.word_store.proofs.Header.{clear-twice, clear-claim-frame, clear-add-slot, clear-put-slot, clear-take-text, clear-size}
 use Rattle.running.specs.Cleared.{Cleared, ClearedThrough}

@@ -1,9 +1,7 @@
 -- Well-formed memories are a well-formed state of the bounded machine; memories that follow its run go alongside the unbounded machine. Assumes nothing.
-use mathlib.Core.Path.{_≡_, refl, _∙_, ap, sym, subst}
+use mathlib.Core.Path.{_∙_, ap, sym, subst}
 use mathlib.Core.List.{List}
 use Prim.Native.Nat.{ℕ}
-use native.Mathlib.Omega.{arith}
-use Rattle.framed.specs.Machine.{State}
 use Rattle.framed.specs.Answers.{Stopped}
 use Rattle.framed.specs.Calls.{Unbounded}
 use Rattle.framed.specs.Alike.{Alike}
@@ -18,10 +16,9 @@ use Rattle.bounded.specs.Views.{entries}
 use Rattle.bounded.specs.Bounded.{Bounded}
 use Rattle.bounded.specs.Bounded as bounded
 use Rattle.bounded.specs.Relation as relation
-use Rattle.bounded.specs.Theorems.{Admitted}
 use Rattle.bounded.proofs.Theorems.{simulation, bounded-calls}
-use Rattle.word_store.specs.Store.{Memories, word-store}
-use Rattle.word_store.specs.State.{store-held, state-held}
+use Rattle.word_store.specs.Store.{word-store}
+use Rattle.word_store.specs.State.{state-held}
 use Rattle.word_store.proofs.Laws.{word-laws}
 use Rattle.word_store.proofs.State.{state-agrees}
 use Rattle.word_store.proofs.Updates.{held-read}

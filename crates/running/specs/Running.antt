@@ -1,15 +1,10 @@
 -- Document 01, "The calls", run: memories that follow the bounded machine's run, and what that means for them. Assumes nothing.
 use mathlib.Core.Path.{_≡_}
-use mathlib.Core.Logic.{_↔_}
 use mathlib.Core.List.{List}
-use Prim.Native.Nat.{ℕ, suc, _+_, _≤_, _<_}
+use Prim.Native.Nat.{ℕ}
 use lib.ListN.{length}
-use Rattle.framed.specs.Tree.{Instruction, Code, _then_}
-use Rattle.framed.specs.Paths.{Path}
-use Rattle.framed.specs.Program.{Program}
-use Rattle.framed.specs.Machine.{State, Effect, gives, ends, step, after-step, right-side, frame-literals}
 use Rattle.framed.specs.Answers.{Stopped}
-use Rattle.framed.specs.Calls.{Unbounded, run, frame-total}
+use Rattle.framed.specs.Calls.{Unbounded, run}
 use Rattle.framed.specs.Alike.{Alike}
 use Rattle.tables.specs.Fields.{frame-limit, text-limit}
 use Rattle.trees.specs.Held.{program-held, remaining}

@@ -1,5 +1,4 @@
 // Spaces and comments of a source.
-ghost use mathlib.Core.Path.{_≡_};
 ghost use Rattle.framed.specs.Bytes.{class};
 ghost use Rattle.source.specs.Classified.{Classified};
 ghost use Rattle.spaces.specs.Spaces.{CommentEnds, CanSkip, SkipsOne, Skips};

@@ -1,9 +1,9 @@
 -- Constants make no text and do not touch the header; lists of frames that are held. Assumes nothing.
-use mathlib.Core.Path.{_≡_, refl, sym, ap, _∙_}
+use mathlib.Core.Path.{_≡_, refl, sym, _∙_}
 use mathlib.Core.Bool.{Bool, true, false}
 use mathlib.Core.List.{List, []}
 use mathlib.Core.Option.{none}
-use Prim.Native.Nat.{ℕ, zero, suc, _+_, _<_}
+use Prim.Native.Nat.{ℕ, _<_}
 use native.Mathlib.Decide.{decLt}
 use native.Mathlib.Omega.{arith}
 use lib.ListN.{length, getD, getElem?, List·getD-eq-default}
@@ -13,7 +13,6 @@ use Rattle.framed.specs.Paths.{Path}
 use Rattle.framed.specs.Values.{new-frame}
 use Rattle.framed.specs.Machine.{join-signs, join-signs-in}
 use Rattle.framed.proofs.General.{none≢some}
-use Rattle.trees.specs.Held.{list-from}
 use Rattle.heap.specs.Words.{frame-used}
 use Rattle.heap.specs.Held.{frames-held}
 use Rattle.heap.proofs.Lists.{elem-at}

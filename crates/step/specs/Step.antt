@@ -6,7 +6,6 @@ use mathlib.Core.List.{List}
 use lib.Dec.{eqb, leb}
 use lib.ListN.{length}
 use Rattle.words.specs.Words.{pick}
-use Rattle.framed.specs.Answers.{Stopped}
 use Rattle.framed.specs.Machine.{frame-literals, join-signs, right-side}
 use Rattle.tables.specs.Fields.{frame-limit, text-limit, instructions, instruction-after}
 use Rattle.trees.specs.Held.{program-held, instruction-held, remaining}
@@ -18,7 +17,7 @@ use Rattle.texts.specs.Texts.{Readable}
 use Rattle.splice.specs.Splice.{splice}
 use Rattle.program_form.specs.WellFormed as program
 use Rattle.wellformed.specs.WellFormed.{limits, WellFormed}
-use Rattle.bounded.specs.Bounded.{Bounded, with-mark, ready, step-end, line, commit, Ran, run, stopped, one-more}
+use Rattle.bounded.specs.Bounded.{Bounded, ready, step-end, line, commit, Ran, run}
 use Rattle.word_store.specs.Store.{Memories, word-store}
 use Rattle.word_store.specs.State.{HeaderFormed}
 use Rattle.allocation.specs.declared.Known.{Known}

@@ -1,54 +1,42 @@
 -- The ways of a step over well-formed memories. Assumes nothing.
-use Prim.Native.Nat.{ℕ, zero, suc, _-_, _≤_, _<_}
+use Prim.Native.Nat.{ℕ, zero, suc, _-_, _≤_}
 use mathlib.Core.Path.{_≡_, refl, _∙_, ap, sym, subst}
 use mathlib.Core.Bool.{Bool, true, false}
-use mathlib.Core.Logic.{_⊎_, inl, inr}
-use mathlib.Core.List.{List, []}
+use mathlib.Core.Logic.{inl, inr}
+use mathlib.Core.List.{List}
 use native.Mathlib.Omega.{arith}
-use lib.Dec.{eqb, leb}
+use lib.Dec.{leb}
 use lib.ListN.{length}
 use borrow.Author.Tests.{leb-true, le-leb, ne-eqb}
-use Rattle.words.specs.Words.{pick}
 use Rattle.framed.specs.declared.Value.{Value}
-use Rattle.framed.specs.Tree.{Instruction, Code, _then_}
-use Rattle.framed.specs.Paths.{Path}
 use Rattle.framed.specs.Program.{Program}
 use Rattle.framed.specs.Answers.{Stopped}
-use Rattle.framed.specs.Calls.{Position, at-end, before, position-in}
-use Rattle.framed.specs.Machine.{State, frame-literals, join-signs, right-side}
-use Rattle.tables.specs.Fields.{frame-limit, text-limit, instructions, instruction-after}
+use Rattle.tables.specs.Fields.{frame-limit, text-limit, instruction-after}
 use Rattle.trees.specs.Held.{program-held, remaining, instruction-held}
-use Rattle.trees.proofs.Held.{one-level-held}
-use Rattle.heap.specs.Words.{position, end-mark, set-end-mark}
-use Rattle.heap.specs.Closed.{Closed, ValueFits}
+use Rattle.heap.specs.Words.{end-mark, set-end-mark}
+use Rattle.heap.specs.Closed.{ValueFits}
 use Rattle.state_form.proofs.Facts.{well-formed-closed}
 use Rattle.wellformed.specs.WellFormed.{limits, WellFormed}
-use Rattle.bounded.specs.Bounded.{Bounded, with-mark, ready, step-end, line, commit, stopped, one-more, state-of}
+use Rattle.bounded.specs.Bounded.{Bounded, with-mark, stopped, one-more}
 use Rattle.bounded.specs.Bounded as bounded
 use Rattle.bounded.specs.Relation as relation
 use Rattle.bounded.specs.Relation.{EndMark}
 use Rattle.bounded.specs.Fits.{Valid}
-use Rattle.bounded.specs.Theorems.{RunWays}
-use Rattle.bounded.proofs.Runs.{run-ways}
 use Rattle.bounded.proofs.Theorems.{bounded-calls}
-use Rattle.splice.specs.Splice.{splice}
 use Rattle.word_store.specs.Store.{Memories, word-store}
 use Rattle.word_store.specs.State.{store-held, state-held, HeaderFormed}
 use Rattle.word_store.proofs.Updates.{held-after, header-after}
 use Rattle.word_store.proofs.Values.{valid-named}
-use Rattle.reserving.specs.Reserving.{reserved-words, room-end-held, Reserves}
-use Rattle.reserving.proofs.Meaning.{reserve-ready, reserved-closed, reserved-header}
+use Rattle.reserving.proofs.Meaning.{reserved-closed, reserved-header}
 use Rattle.commit.specs.Commit as C
 use Rattle.commit.specs.Commit.{position-after}
-use Rattle.commit.specs.Words.{heap-of}
 use Rattle.commit.proofs.Headers.{kept-stays}
 use Rattle.program_fits.proofs.Laws.{well-formed-fits}
 use Rattle.running.specs.Running.{bounded-held, bounded-run, BoundedForm}
 use Rattle.running.specs.Cleared.{Cleared}
 use Rattle.running.proofs.Laws.{bounded-form}
 use Rattle.running.proofs.Cleared.{cleared-through}
-use Rattle.step.specs.declared.Outcome.{Outcome}
-use Rattle.step.specs.Step.{frames-for, texts-for, Formed, CanStep, ready-words, step-end-held, line-held, committed, committed-heap, committed-text, attempted, attempt-step, ready-state, machine-run}
+use Rattle.step.specs.Step.{frames-for, texts-for, Formed, CanStep, ready-words, step-end-held, line-held, committed, committed-heap, committed-text, attempt-step, ready-state, machine-run}
 use Rattle.step.proofs.Runs.{ready-is, run-ended, run-no-space, run-made, run-zero}
 use Rattle.step_held.specs.StepHeld.{EndHeld, SpaceHeld, MadeHeld, AttemptHeld, ends, lacks-space, makes, StepHeld}
 use Rattle.step_held.proofs.Position.{position-remains, position-small}

@@ -1,37 +1,30 @@
 -- The position after an instruction holds what remains after it. Assumes nothing.
-use Prim.Native.Nat.{ℕ, zero, suc, _≤_, _<_}
-use mathlib.Core.Path.{_≡_, refl, _∙_, ap, sym}
+use Prim.Native.Nat.{ℕ, _≤_, _<_}
+use mathlib.Core.Path.{_≡_, refl}
 use mathlib.Core.Bool.{Bool, true, false}
 use mathlib.Core.List.{List, [], _∷_}
-use native.Mathlib.Omega.{arith}
-use native.Mathlib.Decide.{decLe}
-use lib.ListN.{getD}
-use borrow.Author.Tests.{le-leb, lt-leb}
 use Rattle.words.specs.Words.{pick}
 use Rattle.framed.specs.declared.Value.{Value}
 use Rattle.framed.specs.Common.{if_then_else_}
-use Rattle.framed.specs.Tree.{Instruction, Code, Base}
+use Rattle.framed.specs.Tree.{Code}
 use Rattle.framed.specs.Paths.{Path, from-self, from-program}
 use Rattle.framed.specs.Values.{truth}
 use Rattle.framed.specs.Machine as M
 use Rattle.framed.specs.Machine.{Result, gives, ends, base-value, code-of}
 use Rattle.tables.specs.declared.InstructionEntry.{InstructionEntry}
 use Rattle.tables.specs.Entries.{instruction-at}
-use Rattle.tables.specs.Fields.{codes, code-first, instructions, instruction-after}
+use Rattle.tables.specs.Fields.{codes, instructions, instruction-after}
 use Rattle.program_form.specs.WellFormed.{WellFormed}
-use Rattle.program_form.specs.Sound.{Sound}
-use Rattle.program_form.proofs.Decides.{sound}
 use Rattle.trees.specs.Held as trees
-use Rattle.trees.specs.Held.{remaining, instruction-held, base-held, OneLevel}
-use Rattle.trees.proofs.Held.{one-level-held, assign-self-held, assign-program-held, show-held, jump-held, ifeq-held}
+use Rattle.trees.specs.Held.{remaining, instruction-held, base-held}
+use Rattle.trees.proofs.Held.{assign-self-held, assign-program-held, show-held, jump-held, ifeq-held}
 use Rattle.heap.specs.Words.{self-held, program-held, position}
-use Rattle.heap.specs.Held.{frames-held}
 use Rattle.operands.specs.Operands.{operand-value}
 use Rattle.bounded.specs.Check.{Jump, jump-result}
 use Rattle.bounded.specs.Bounded.{Bounded, Produced, value-given, heap-in, goes-on, commit-assign, commit-jump, commit}
 use Rattle.word_store.specs.Store.{Memories, word-store}
 use Rattle.word_store.specs.State.{store-held, state-held}
-use Rattle.commit.specs.Commit.{state-of, first-place, code-place, place-to, jump-place, position-by, position-after}
+use Rattle.commit.specs.Commit.{state-of, code-place, place-to, jump-place, position-by, position-after}
 use Rattle.evaluation.proofs.Stores.{frames-are}
 use Rattle.commit.proofs.Places.{code-at, place-small, after-small}
 

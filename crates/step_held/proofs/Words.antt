@@ -1,18 +1,17 @@
 -- The words of a state hold that state, where the store's header is cleared and its values are of 32 bits. Assumes nothing.
 use Prim.Native.Nat.{ℕ, _≤_, _<_}
-use mathlib.Core.Path.{_≡_, refl, _∙_, ap, sym}
+use mathlib.Core.Path.{_≡_, _∙_, ap, sym}
 use mathlib.Core.List.{List, []}
 use native.Mathlib.Omega.{arith}
 use lib.ListN.{length}
 use Rattle.words.specs.Words.{word}
-use Rattle.framed.specs.declared.Value.{Value}
 use Rattle.framed.specs.Tree.{Code}
 use Rattle.framed.specs.Paths.{Path}
-use Rattle.heap.specs.Words.{position, end-mark, set-self, set-program, set-position, set-end-mark}
+use Rattle.heap.specs.Words.{position, end-mark, set-self, set-program, set-position}
 use Rattle.heap.specs.Closed.{ValueFits}
 use Rattle.bounded.specs.Bounded.{Bounded, with-mark}
-use Rattle.word_store.specs.Store.{Memories, memories, clear-header}
-use Rattle.word_store.specs.State.{store-held, state-held, with-self, with-program, with-remaining, HeaderFormed}
+use Rattle.word_store.specs.Store.{Memories, memories}
+use Rattle.word_store.specs.State.{store-held, state-held, with-program, with-remaining, HeaderFormed}
 use Rattle.word_store.proofs.Header.{clear-word}
 use Rattle.word_store.proofs.Updates.{held-after, header-after}
 use Rattle.state_form.specs.declared.Limits.{Limits}

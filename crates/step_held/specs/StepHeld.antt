@@ -5,7 +5,6 @@ use mathlib.Core.Path.{_≡_}
 use mathlib.Core.List.{List}
 use lib.ListN.{length}
 use Rattle.framed.specs.Answers.{Stopped}
-use Rattle.tables.specs.Fields.{frame-limit, text-limit}
 use Rattle.wellformed.specs.WellFormed.{limits, WellFormed}
 use Rattle.splice.specs.Splice.{splice}
 use Rattle.bounded.specs.Bounded.{stopped, one-more}

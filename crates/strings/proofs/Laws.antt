@@ -9,8 +9,6 @@ use native.Mathlib.Decide.{decLt}
 use lib.Dec.{eqb}
 use lib.ListN.{length, length-append, getD, List·getD-append}
 use lib.Seq.{getD-append-seam}
-use types.Run.{OneOf, miss}
-use denote.Enum.Declared.{tagOf}
 use borrow.Author.Tests.{eq-eqb, ne-eqb, eqb-true, eqb-false}
 use Rattle.framed.specs.Common.{if_then_else_}
 use Rattle.framed.specs.Bytes.{class}
@@ -22,7 +20,6 @@ use Rattle.words.specs.Words.{word, set-word}
 use Rattle.words.proofs.Laws.{word-other, word-same, set-size}
 use Rattle.token.specs.Reading.{token-of, token-kind, meant, TokenAt, Spot}
 use Rattle.token.specs.declared.TokenRead.{TokenRead}
-use Rattle.token.proofs.TokenRead.{the-type}
 use Rattle.token.proofs.KindNumbers.{kind-is}
 use Rattle.token.proofs.Answers.{spot-of}
 use Rattle.token.proofs.Unique.{token-inj}

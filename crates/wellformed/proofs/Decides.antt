@@ -1,14 +1,10 @@
 -- The test of all four memories decides the paragraph, and well-formed memories are consistent. Assumes nothing.
-use mathlib.Core.Path.{_≡_}
-use mathlib.Core.Bool.{true}
-use mathlib.Core.List.{List}
-use Prim.Native.Nat.{ℕ}
 use Rattle.program_form.specs.WellFormed.{program-well-formed}
 use Rattle.program_form.proofs.Decides as program
 use Rattle.state_form.specs.Tests.{state-well-formed}
 use Rattle.state_form.proofs.Decide.{decides-and}
 use Rattle.state_form.proofs.Facts.{state-decides, well-formed-closed}
-use Rattle.wellformed.specs.WellFormed.{limits, WellFormed, well-formed, WellFormedDecides, WellFormedConsistent}
+use Rattle.wellformed.specs.WellFormed.{limits, well-formed, WellFormedDecides, WellFormedConsistent}
 
 pub well-formed-decides : WellFormedDecides
 unfolding well-formed

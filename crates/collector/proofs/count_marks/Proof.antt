@@ -1,6 +1,5 @@
 use Prim.Native.Nat.{_-_}
 use native.Mathlib.Omega.{arith}
-use borrow.Author.Needs.{needs}
 use mathlib.Core.Logic.{⊎-elim}
 use Rattle.heap.proofs.Loops.{Tally, tally-start}
 use Rattle.collector.specs.Collect.{marked-from}

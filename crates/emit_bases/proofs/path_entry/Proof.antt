@@ -1,5 +1,4 @@
 use Rattle.emit_bases.proofs.Laws.{entry-self, entry-program}
-use borrow.Author.Needs.{needs}
 use Rattle.emit_bases.proofs.path_entry.Statement.{statement}
 use Rattle.emit_bases.proofs.path_entry.Tie as tie
 use Rattle.emit_bases.proofs.path_entry.Reads as reads

@@ -1,7 +1,6 @@
 use Rattle.emit_names.proofs.Laws.{Listing, listing-start, listing-again, listing-done}
 use native.Mathlib.Omega.{arith}
 use Prim.Native.Nat.{_-_}
-use lib.ListN.{length}
 use borrow.Author.Needs.{needs}
 use Rattle.emit_names.proofs.write_names.Statement.{statement}
 use Rattle.emit_names.proofs.write_names.Tie as tie

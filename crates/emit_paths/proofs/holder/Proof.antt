@@ -2,7 +2,6 @@ use mathlib.Core.Path.{refl}
 use Rattle.emit_paths.proofs.Laws.{Holding, holding-start, holding-full, holding-again, holding-done}
 use native.Mathlib.Omega.{arith}
 use Prim.Native.Nat.{_-_}
-use lib.ListN.{length}
 use borrow.Author.Needs.{needs}
 use Rattle.emit_paths.proofs.holder.Statement.{statement}
 use Rattle.emit_paths.proofs.holder.Tie as tie

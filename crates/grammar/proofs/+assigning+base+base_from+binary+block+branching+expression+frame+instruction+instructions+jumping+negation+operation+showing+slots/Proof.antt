@@ -1,10 +1,10 @@
 use native.Mathlib.Omega.{arith}
 use borrow.Author.Needs.{needs}
 use lib.ListN.{length}
-use Prim.Native.Nat.{_+_, _*_, _-_}
+use Prim.Native.Nat.{_<_, _+_, _*_, _-_}
 use Rattle.framed.specs.Parse as R
 use Rattle.grammar.proofs.Laws.{Continues, assign-1, assign-2, assign-3, assign-falls, base-block, base-none, base-path, base-token, binary-1, binary-2, binary-falls, block-1, block-2, block-3, block-4, block-falls, expression-binary, expression-frame, expression-not, frame-1, frame-2, frame-3, frame-4, frame-5, frame-falls, ifeq-1, ifeq-2, ifeq-3, ifeq-4, ifeq-falls, ifeq-falls-2, ifeq-falls-3, instruction-assign, instruction-ifeq, instruction-jump, instruction-show, jump-1, jump-2, jump-3, jump-falls, jump-falls-2, list-1, list-2, list-again, list-end, list-falls, list-less, list-start, negation-1, negation-2, negation-falls, operation-1, operation-2, operation-3, operation-falls, show-1, show-2, show-falls, slots-1, slots-2, slots-3, slots-4, slots-again, slots-end, slots-falls, slots-less, slots-start}
-use Prim.Native.Nat.{ℕ, _<_}
+use Prim.Native.Nat.{ℕ}
 use borrow.Fn.Kinds.{In}
 use borrow.Fn.PlainCycle.{Measures, is, falls, and}
 use Rattle.grammar.proofs.assigning.Reads as assigning

@@ -1,4 +1,3 @@
-use Prim.Native.Nat.{_-_}
 use Rattle.lexeme.proofs.Laws.{word-frame, word-code, word-self, word-show, word-jump, word-ifeq, word-name}
 use borrow.Author.Needs.{needs}
 use Rattle.lexeme.proofs.kind_of_word.Statement.{statement}

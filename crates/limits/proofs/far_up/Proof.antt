@@ -1,5 +1,4 @@
 use Rattle.limits.proofs.Laws.{far-is}
-use borrow.Author.Needs.{needs}
 use Rattle.limits.proofs.far_up.Statement.{statement}
 use Rattle.limits.proofs.far_up.Tie as tie
 

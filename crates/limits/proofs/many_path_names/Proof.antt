@@ -1,5 +1,4 @@
 use Rattle.limits.proofs.Laws.{names-none, names-are}
-use borrow.Author.Needs.{needs}
 use Rattle.limits.proofs.many_path_names.Statement.{statement}
 use Rattle.limits.proofs.many_path_names.Tie as tie
 

@@ -1,5 +1,4 @@
 use Rattle.limits.proofs.Laws.{misplaced-is}
-use borrow.Author.Needs.{needs}
 use Rattle.limits.proofs.outside_code.Statement.{statement}
 use Rattle.limits.proofs.outside_code.Tie as tie
 

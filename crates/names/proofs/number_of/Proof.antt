@@ -2,7 +2,6 @@ use borrow.Author.Needs.{needs}
 use Rattle.names.proofs.Numbers.{Seeking, seek-start, seek-found, seek-again, seek-end}
 use native.Mathlib.Omega.{arith}
 use Prim.Native.Nat.{_-_}
-use lib.ListN.{length}
 use Rattle.names.proofs.number_of.Statement.{statement}
 use Rattle.names.proofs.number_of.Tie as tie
 use Rattle.names.proofs.number_of.Reads as reads

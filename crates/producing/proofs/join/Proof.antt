@@ -1,4 +1,4 @@
-use Rattle.producing.proofs.Laws.{join-size, join-done}
+use Rattle.producing.proofs.Laws.{join-done}
 use borrow.Author.Needs.{needs}
 use Rattle.producing.proofs.join.Statement.{statement}
 use Rattle.producing.proofs.join.Tie as tie

@@ -1,5 +1,4 @@
 use Rattle.run.proofs.Laws.{stop-done, stop-31, stop-32, stop-33, stop-34, stop-35, stop-36, stop-37}
-use borrow.Author.Needs.{needs}
 use Rattle.run.proofs.stop_of.Statement.{statement}
 use Rattle.run.proofs.stop_of.Tie as tie
 use Rattle.run.proofs.stop_of.Reads as reads

@@ -1,4 +1,3 @@
-use borrow.Author.Needs.{needs}
 use Rattle.slots.proofs.Laws.{clear-other, clear-frame, clear-more}
 use Rattle.slots.proofs.clear_after.Statement.{statement}
 use Rattle.slots.proofs.clear_after.Tie as tie

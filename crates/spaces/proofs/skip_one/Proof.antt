@@ -1,4 +1,3 @@
-use Prim.Native.Nat.{_-_}
 use Rattle.spaces.proofs.Laws.{skip-space, skip-no-slash, skip-one-slash, skip-slashes}
 use borrow.Author.Needs.{needs}
 use Rattle.spaces.proofs.skip_one.Statement.{statement}
