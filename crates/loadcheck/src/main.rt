@@ -1,27 +1,7 @@
 // For each source that the file `index` names: the name, and that it loads with its counts, or the number that refuses it. F and T are 256.
 ghost use lib.ListN.{length};
 ghost use Rattle.loadcheck.specs.Lines.{Begins, Ends};
-use framed::LoadAnswer;
 use libc::STDOUT_FILENO;
-
-// The number of a refusal, 0 for a source that loads.
-fn number(a: LoadAnswer) -> u64 {
-    match a {
-        LoadAnswer::Loaded => 0,
-        LoadAnswer::MemoryLength => 1,
-        LoadAnswer::LimitRange => 2,
-        LoadAnswer::SourceLength => 3,
-        LoadAnswer::NoToken => 4,
-        LoadAnswer::Nesting => 5,
-        LoadAnswer::NotOneFrame => 6,
-        LoadAnswer::OutsideCode => 7,
-        LoadAnswer::BadFrame => 8,
-        LoadAnswer::CountLimit => 9,
-        LoadAnswer::AboveProgram => 10,
-        LoadAnswer::NoStart => 11,
-        LoadAnswer::WrittenFrames => 12,
-    }
-}
 
 fn print_count(word: &[u8], n: u32) {
     io::write_all(STDOUT_FILENO, word);
@@ -40,13 +20,13 @@ fn print_counts(p: &[u32], h: &[u32]) {
     print_count(b", frames ", frames);
 }
 
-fn print_answer(name: &[u8], n: u64, p: &[u32], h: &[u32]) {
+fn print_answer(name: &[u8], n: u32, p: &[u32], h: &[u32]) {
     io::write_all(STDOUT_FILENO, name);
     if n == 0 {
         print_counts(p, h);
     } else {
         io::write_all(STDOUT_FILENO, b" refused ");
-        io::print_decimal(STDOUT_FILENO, n);
+        io::print_decimal(STDOUT_FILENO, n as u64);
     }
     io::write_all(STDOUT_FILENO, b"\n");
 }
@@ -57,7 +37,7 @@ fn load_source(name: &[u8], source: &[u8]) {
     let mut l = [0u8; 8192];
     let mut t = [0u8; 16384];
     let a = load::load(source, 256, 256, &mut p, &mut h, &mut l, &mut t);
-    let n = number(a);
+    let n = answers::load_number(a);
     print_answer(name, n, &p, &h);
 }
 

@@ -26,7 +26,8 @@ use Rattle.running.proofs.Laws.{bounded-form}
 use Rattle.step.specs.Step.{Formed, CanStep}
 use Rattle.step_held.specs.StepHeld.{AttemptHeld, ends, lacks-space, makes}
 use Rattle.step_held.proofs.Attempt.{step-held}
-use Rattle.run.specs.Run.{stop-of, Finished, finished, more-steps, by-outcome, after-attempt, run-from}
+use Rattle.stops.specs.Stops.{stop-of}
+use Rattle.run.specs.Run.{Finished, finished, more-steps, by-outcome, after-attempt, run-from}
 use Rattle.run.specs.Loop.{FollowsRun, RunFollows}
 use Rattle.run.proofs.Ways.{stop-number, run-marked, run-done, run-unfuelled, run-attempts}
 

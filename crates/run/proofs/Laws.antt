@@ -5,7 +5,7 @@ use mathlib.Core.Bool.{Bool, true, false, not}
 use mathlib.Core.List.{List, [], _∷_}
 use native.Mathlib.Omega.{arith}
 use lib.ListN.{length}
-use borrow.Author.Tests.{eq-eqb, ne-eqb, not-true, not-false}
+use borrow.Author.Tests.{not-true, not-false}
 use types.Run.{OneOf, miss}
 use denote.Enum.Declared.{tagOf}
 use Rattle.step.proofs.Outcome.{the-type}
@@ -19,6 +19,8 @@ use Rattle.tables.specs.Fields.{instructions}
 use Rattle.allocation.specs.declared.Known.{Known}
 use Rattle.allocation.specs.Known.{Knows}
 use Rattle.allocation.proofs.Laws.{always-known}
+use Rattle.stops.specs.Stops.{stop-of, stop-here}
+use Rattle.stops.proofs.Laws.{here-marked, here-done, here-fuel}
 use Rattle.splice.specs.Splice.{splice}
 use Rattle.splice.proofs.Laws.{splice-length}
 use Rattle.wellformed.specs.WellFormed.{limits, WellFormed, well-formed}
@@ -27,51 +29,10 @@ use Rattle.step.specs.declared.Outcome.{Outcome}
 use Rattle.step.specs.Step.{Formed, CanAttempt, Attempted, Attempts}
 use Rattle.step_held.specs.StepHeld.{AttemptHeld, ends, lacks-space, makes}
 use Rattle.step_held.proofs.Attempt.{step-held}
-use Rattle.run.specs.Run.{stop-of, Finished, finished, more-steps, by-outcome, after-attempt, run-from, Running, running, run-call, RunMeans}
-use Rattle.run.specs.Loop.{stop-after, stop-here, Runs, Going}
+use Rattle.run.specs.Run.{Finished, finished, more-steps, by-outcome, after-attempt, run-from, Running, running, run-call, RunMeans}
+use Rattle.run.specs.Loop.{stop-after, Runs, Going}
 use Rattle.run.proofs.Ways.{run-marked, run-done, run-unfuelled, run-attempts}
 use Rattle.run.proofs.Means.{run-call-means}
-
--- ---- stop_of
-
-module _ (e : ℕ) where
-  pub stop-done : e ≡ 0 → Stop.Done ≡ stop-of e
-  unfolding stop-of
-  stop-done a = rw a
-
-  module _ (n0 : e ≡ 0 → ⊥) where
-    pub stop-31 : e ≡ 31 → Stop.NoRule ≡ stop-of e
-    unfolding stop-of
-    stop-31 a = rw a
-
-    module _ (n1 : e ≡ 31 → ⊥) where
-      pub stop-32 : e ≡ 32 → Stop.DivisorZero ≡ stop-of e
-      unfolding stop-of
-      stop-32 a = rw a
-
-      module _ (n2 : e ≡ 32 → ⊥) where
-        pub stop-33 : e ≡ 33 → Stop.IntegerRange ≡ stop-of e
-        unfolding stop-of
-        stop-33 a = rw a
-
-        module _ (n3 : e ≡ 33 → ⊥) where
-          pub stop-34 : e ≡ 34 → Stop.TextLength ≡ stop-of e
-          unfolding stop-of
-          stop-34 a = rw a
-
-          module _ (n4 : e ≡ 34 → ⊥) where
-            pub stop-35 : e ≡ 35 → Stop.SlotLimit ≡ stop-of e
-            unfolding stop-of
-            stop-35 a = rw a
-
-            module _ (n5 : e ≡ 35 → ⊥) where
-              pub stop-36 : e ≡ 36 → Stop.FramesFull ≡ stop-of e
-              unfolding stop-of
-              stop-36 a = rw a
-
-              pub stop-37 : (e ≡ 36 → ⊥) → Stop.TextsFull ≡ stop-of e
-              unfolding stop-of
-              stop-37 n6 = rw (ne-eqb e 0 n0, ne-eqb e 31 n1, ne-eqb e 32 n2, ne-eqb e 33 n3, ne-eqb e 34 n4, ne-eqb e 35 n5, ne-eqb e 36 n6)
 
 -- ---- stop_after
 
@@ -87,22 +48,6 @@ module _ (o : Outcome) where
   pub after-made : (n : ℕ) → o ≡ Outcome.Made n → Stop.Fuel ≡ stop-after o
   unfolding stop-after
   after-made n eo = rw eo
-
--- ---- stop_here
-
-module _ (h : List ℕ) (e : ℕ) (ee : e ≡ end-mark h) where
-  pub here-marked : (r : Stop) → (e ≡ 0 → ⊥) → r ≡ stop-of e → r ≡ stop-here h
-  unfolding stop-here
-  here-marked r ne er = rw (← ee, ne-eqb e 0 ne) er
-
-  module _ (unmarked : e ≡ 0) (z : ℕ) (ez : z ≡ position h) where
-    pub here-done : z ≡ 0 → Stop.Done ≡ stop-here h
-    unfolding stop-here
-    here-done zz = rw (← ee, eq-eqb e 0 unmarked, ← ez, eq-eqb z 0 zz)
-
-    pub here-fuel : (z ≡ 0 → ⊥) → Stop.Fuel ≡ stop-here h
-    unfolding stop-here
-    here-fuel nz = rw (← ee, eq-eqb e 0 unmarked, ← ez, ne-eqb z 0 nz)
 
 -- ---- run_steps
 

@@ -9,7 +9,8 @@ use Rattle.framed.specs.declared.Stop.{Stop}
 use Rattle.framed.specs.Answers.{Stopped, stop-word}
 use Rattle.heap.specs.Words.{position, end-mark}
 use Rattle.step.specs.Step.{attempt-step}
-use Rattle.run.specs.Run.{stop-of, Finished, finished, unless-ended, after-attempt, run-from}
+use Rattle.stops.specs.Stops.{stop-of}
+use Rattle.run.specs.Run.{Finished, finished, unless-ended, after-attempt, run-from}
 
 -- ---- Stops
 

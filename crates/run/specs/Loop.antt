@@ -2,20 +2,18 @@
 use Prim.Native.Nat.{ℕ, _+_, _-_, _≤_}
 use mathlib.Core.Path.{_≡_}
 use mathlib.Core.List.{List}
-use lib.Dec.{eqb}
 use lib.ListN.{length}
-use Rattle.words.specs.Words.{pick}
 use Rattle.framed.specs.declared.Stop.{Stop}
 use Rattle.framed.specs.declared.RunReport.{RunReport}
 use Rattle.framed.specs.Answers.{stop-word}
-use Rattle.heap.specs.Words.{position, end-mark}
+use Rattle.stops.specs.Stops.{stop-of}
 use Rattle.splice.specs.Splice.{splice}
 use Rattle.wellformed.specs.WellFormed.{limits, WellFormed}
 use Rattle.word_store.specs.State.{HeaderFormed}
 use Rattle.running.specs.Running.{bounded-held, bounded-run}
 use Rattle.step.specs.declared.Outcome.{Outcome}
 use Rattle.step.specs.Step.{Formed}
-use Rattle.run.specs.Run.{stop-of, Finished, more-steps, run-from}
+use Rattle.run.specs.Run.{Finished, more-steps, run-from}
 
 -- the definition against the bounded machine
 pub record FollowsRun (p l : List ℕ) (fuel : ℕ) (h t out : List ℕ) (used : ℕ) (r : Finished) : Type 0 where
@@ -32,15 +30,11 @@ RunFollows = (p l : List ℕ) (fuel : ℕ) (h t out : List ℕ) (used : ℕ) →
 
 -- ---- The code's loop
 
--- the number of a stop, from an end and from the outcome of a step that was not made
+-- the stop after a step that was not made
 unfoldable pub stop-after : Outcome → Stop
 stop-after (Outcome.Ended e) = stop-of e
 stop-after Outcome.NoSpace = Stop.Output
 stop-after (Outcome.Made n) = Stop.Fuel
-
--- where the fuel is spent
-unfoldable pub stop-here : List ℕ → Stop
-stop-here h = pick (eqb (end-mark h) 0) (pick (eqb (position h) 0) Stop.Done Stop.Fuel) (stop-of (end-mark h))
 
 -- the report and what is lent to be written at exit
 pub record Runs (p l : List ℕ) (fuel : ℕ) (h t out : List ℕ) (r : RunReport) (h′ t′ out′ : List ℕ) : Type 0 where

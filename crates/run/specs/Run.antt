@@ -3,7 +3,6 @@
 use Prim.Native.Nat.{ℕ, zero, suc, _+_, _≤_}
 use mathlib.Core.Path.{_≡_}
 use mathlib.Core.List.{List}
-use lib.Dec.{eqb}
 use lib.ListN.{length, drop}
 use Rattle.words.specs.Words.{pick}
 use Rattle.framed.specs.declared.Stop.{Stop}
@@ -15,22 +14,11 @@ use Rattle.framed.specs.Alike.{Alike}
 use Rattle.tables.specs.Fields.{frame-limit, text-limit}
 use Rattle.trees.specs.Held.{program-held}
 use Rattle.heap.specs.Words.{position, end-mark}
+use Rattle.stops.specs.Stops.{stop-of}
 use Rattle.wellformed.specs.WellFormed.{WellFormed, well-formed}
 use Rattle.wellformed.specs.Held.{state-held}
 use Rattle.step.specs.declared.Outcome.{Outcome}
 use Rattle.step.specs.Step.{Attempted, attempt-step}
-
--- ---- The stop with an end: 0 done, 31 to 37
-
-unfoldable pub stop-of : ℕ → Stop
-stop-of e =
-    pick (eqb e 0) Stop.Done
-    (pick (eqb e 31) Stop.NoRule
-    (pick (eqb e 32) Stop.DivisorZero
-    (pick (eqb e 33) Stop.IntegerRange
-    (pick (eqb e 34) Stop.TextLength
-    (pick (eqb e 35) Stop.SlotLimit
-    (pick (eqb e 36) Stop.FramesFull Stop.TextsFull))))))
 
 -- ---- The run, step by step
 

@@ -6,60 +6,18 @@ use framed::Stop;
 use step::Outcome;
 ghost use mathlib.Core.Path.{_≡_};
 ghost use Rattle.step.specs.Step.{Formed};
-ghost use Rattle.run.specs.Run.{stop-of, running, run-call, RunMeans};
-ghost use Rattle.run.specs.Loop.{stop-after, stop-here, Runs};
-
-// The stop with an end: 0 done, 31 to 37.
-fn stop_of(e: u32) -> Stop
-    ensures { λ r. ⌜ r ≡ stop-of e ⌝ }
-{
-    if e == 0 {
-        return Stop::Done;
-    }
-    if e == 31 {
-        return Stop::NoRule;
-    }
-    if e == 32 {
-        return Stop::DivisorZero;
-    }
-    if e == 33 {
-        return Stop::IntegerRange;
-    }
-    if e == 34 {
-        return Stop::TextLength;
-    }
-    if e == 35 {
-        return Stop::SlotLimit;
-    }
-    if e == 36 {
-        return Stop::FramesFull;
-    }
-    Stop::TextsFull
-}
+ghost use Rattle.run.specs.Run.{running, run-call, RunMeans};
+ghost use Rattle.run.specs.Loop.{stop-after, Runs};
 
 // The stop after a step that was not made.
 fn stop_after(o: Outcome) -> Stop
     ensures { λ r. ⌜ r ≡ stop-after o ⌝ }
 {
     match o {
-        Outcome::Ended(e) => stop_of(e),
+        Outcome::Ended(e) => stops::stop_of(e),
         Outcome::NoSpace => Stop::Output,
         Outcome::Made(_n) => Stop::Fuel,
     }
-}
-
-// The stop where the fuel is spent: marked or done comes first.
-fn stop_here(h: &[u32]) -> Stop
-    ensures { λ r. ⌜ r ≡ stop-here (now (h .entry)) ⌝ }
-{
-    let e = heap::end_mark(h);
-    if e != 0 {
-        return stop_of(e);
-    }
-    if heap::position(h) == 0 {
-        return Stop::Done;
-    }
-    Stop::Fuel
 }
 
 // What is known of the numbers in use in any words.
@@ -93,7 +51,7 @@ fn run_steps(
         let e = heap::end_mark(h);
         if e != 0 {
             return RunReport {
-                stop: stop_of(e),
+                stop: stops::stop_of(e),
                 steps: steps,
                 bytes: used,
             };
@@ -120,7 +78,7 @@ fn run_steps(
         known = a.known;
     }
     RunReport {
-        stop: stop_here(h),
+        stop: stops::stop_here(h),
         steps: steps,
         bytes: used,
     }

@@ -11,8 +11,8 @@ use Rattle.heap.proofs.end_mark.Reads as end-mark-reads
 use Rattle.heap.proofs.position.Reads as position-reads
 use Rattle.run.proofs.nothing_known.Reads as nothing-known-reads
 use Rattle.run.proofs.stop_after.Reads as stop-after-reads
-use Rattle.run.proofs.stop_here.Reads as stop-here-reads
-use Rattle.run.proofs.stop_of.Reads as stop-of-reads
+use Rattle.stops.proofs.stop_here.Reads as stop-here-reads
+use Rattle.stops.proofs.stop_of.Reads as stop-of-reads
 use Rattle.step.proofs.attempt.Reads as attempt-reads
 
 abbrev Inv-loop : tie.InvT-loop

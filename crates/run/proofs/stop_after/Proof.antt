@@ -4,7 +4,7 @@ use Rattle.run.proofs.stop_after.Statement.{statement}
 use Rattle.run.proofs.stop_after.Tie as tie
 use Rattle.run.proofs.stop_after.Reads as reads
 use Rattle.run.proofs.stop_after.Lts as lts
-use Rattle.run.proofs.stop_of.Reads as stop-of-reads
+use Rattle.stops.proofs.stop_of.Reads as stop-of-reads
 
 -- src/lib.rt:44:24
 enum-known-o : tie.Need-enum-known-o

@@ -1,12 +1,12 @@
-use Rattle.run.proofs.Laws.{here-marked, here-done, here-fuel}
+use Rattle.stops.proofs.Laws.{here-marked, here-done, here-fuel}
 use borrow.Author.Needs.{needs}
-use Rattle.run.proofs.stop_here.Statement.{statement}
-use Rattle.run.proofs.stop_here.Tie as tie
-use Rattle.run.proofs.stop_here.Reads as reads
-use Rattle.run.proofs.stop_here.Lts as lts
+use Rattle.stops.proofs.stop_here.Statement.{statement}
+use Rattle.stops.proofs.stop_here.Tie as tie
+use Rattle.stops.proofs.stop_here.Reads as reads
+use Rattle.stops.proofs.stop_here.Lts as lts
 use Rattle.heap.proofs.end_mark.Reads as end-mark-reads
 use Rattle.heap.proofs.position.Reads as position-reads
-use Rattle.run.proofs.stop_of.Reads as stop-of-reads
+use Rattle.stops.proofs.stop_of.Reads as stop-of-reads
 
 -- src/lib.rt:54:9
 end-mark-requires : tie.Need-end-mark-requires

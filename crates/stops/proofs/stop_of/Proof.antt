@@ -1,8 +1,8 @@
-use Rattle.run.proofs.Laws.{stop-done, stop-31, stop-32, stop-33, stop-34, stop-35, stop-36, stop-37}
-use Rattle.run.proofs.stop_of.Statement.{statement}
-use Rattle.run.proofs.stop_of.Tie as tie
-use Rattle.run.proofs.stop_of.Reads as reads
-use Rattle.run.proofs.stop_of.Lts as lts
+use Rattle.stops.proofs.Laws.{stop-done, stop-31, stop-32, stop-33, stop-34, stop-35, stop-36, stop-37}
+use Rattle.stops.proofs.stop_of.Statement.{statement}
+use Rattle.stops.proofs.stop_of.Tie as tie
+use Rattle.stops.proofs.stop_of.Reads as reads
+use Rattle.stops.proofs.stop_of.Lts as lts
 
 -- src/lib.rt:16:9
 returns : tie.Need-returns
