@@ -5,7 +5,7 @@ use Rattle.heap.proofs.end_mark.Tie as tie
 
 returns : tie.Need-returns
 unfolding end-mark
-returns c = cc
+returns c = rw (c .word .ensures)
 
 pub end-mark-spec : {M : Type 1} → statement M
 end-mark-spec = tie.close (tie.spec

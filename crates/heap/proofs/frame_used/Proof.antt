@@ -5,7 +5,7 @@ use Rattle.heap.proofs.frame_used.Tie as tie
 
 returns : tie.Need-returns
 unfolding frame-used
-returns c = cc
+returns c = rw (c .frame-word .ensures)
 
 pub frame-used-spec : {M : Type 1} → statement M
 frame-used-spec = tie.close (tie.spec

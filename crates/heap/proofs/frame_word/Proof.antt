@@ -5,7 +5,7 @@ use Rattle.heap.proofs.frame_word.Tie as tie
 
 returns : tie.Need-returns
 unfolding frame-word
-returns c = cc
+returns c = rw (c .word .ensures, c .before .wide .ensures)
 
 pub frame-word-spec : {M : Type 1} → statement M
 frame-word-spec = tie.close (tie.spec

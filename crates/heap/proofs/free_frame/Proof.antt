@@ -5,7 +5,7 @@ use Rattle.heap.proofs.free_frame.Tie as tie
 
 returns : tie.Need-returns
 unfolding free-frame
-returns c = cc
+returns c = rw (c .before .before .set-word .ensures, c .before .before .before .wide .ensures)
 
 pub free-frame-spec : {M : Type 1} → statement M
 free-frame-spec =

@@ -5,7 +5,7 @@ use Rattle.heap.proofs.free_text.Tie as tie
 
 returns : tie.Need-returns
 unfolding free-text
-returns c = cc
+returns c = rw (c .before .before .set-word .ensures, c .before .before .before .wide .ensures)
 
 pub free-text-spec : {M : Type 1} → statement M
 free-text-spec =

@@ -5,7 +5,7 @@ use Rattle.heap.proofs.position.Tie as tie
 
 returns : tie.Need-returns
 unfolding position
-returns c = cc
+returns c = rw (c .word .ensures)
 
 pub position-spec : {M : Type 1} → statement M
 position-spec = tie.close (tie.spec

@@ -5,7 +5,7 @@ use Rattle.heap.proofs.set_end_mark.Tie as tie
 
 returns : tie.Need-returns
 unfolding set-end-mark
-returns c = cc
+returns c = rw (c .before .before .set-word .ensures)
 
 pub set-end-mark-spec : {M : Type 1} → statement M
 set-end-mark-spec = tie.close (tie.spec

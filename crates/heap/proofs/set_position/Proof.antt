@@ -5,7 +5,7 @@ use Rattle.heap.proofs.set_position.Tie as tie
 
 returns : tie.Need-returns
 unfolding set-position
-returns c = cc
+returns c = rw (c .before .before .set-word .ensures)
 
 pub set-position-spec : {M : Type 1} → statement M
 set-position-spec = tie.close (tie.spec

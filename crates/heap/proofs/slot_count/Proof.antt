@@ -5,7 +5,7 @@ use Rattle.heap.proofs.slot_count.Tie as tie
 
 returns : tie.Need-returns
 unfolding slot-count-at
-returns c = cc
+returns c = rw (c .word .ensures, c .before .wide .ensures)
 
 pub slot-count-spec : {M : Type 1} → statement M
 slot-count-spec = tie.close (tie.spec

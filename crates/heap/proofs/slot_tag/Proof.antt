@@ -5,7 +5,7 @@ use Rattle.heap.proofs.slot_tag.Tie as tie
 
 returns : tie.Need-returns
 unfolding slot-tag-at
-returns c = cc
+returns c = rw (c .word .ensures, c .before .wide2 .ensures, c .before .before .wide .ensures)
 
 pub slot-tag-spec : {M : Type 1} → statement M
 slot-tag-spec =

@@ -5,7 +5,7 @@ use Rattle.heap.proofs.slot_value.Tie as tie
 
 returns : tie.Need-returns
 unfolding slot-value-at
-returns c = cc
+returns c = rw (c .value-of .ensures, c .before .slot-number .ensures, c .before .before .slot-tag .ensures)
 
 pub slot-value-spec : {M : Type 1} → statement M
 slot-value-spec =

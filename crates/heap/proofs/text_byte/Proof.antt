@@ -5,7 +5,7 @@ use Rattle.heap.proofs.text_byte.Tie as tie
 
 returns : tie.Need-returns
 unfolding text-byte
-returns c = cc
+returns c = rw (c .byte .ensures, c .before .wide2 .ensures, c .before .before .wide .ensures)
 
 pub text-byte-spec : {M : Type 1} → statement M
 text-byte-spec =

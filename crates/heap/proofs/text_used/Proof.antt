@@ -5,7 +5,7 @@ use Rattle.heap.proofs.text_used.Tie as tie
 
 returns : tie.Need-returns
 unfolding text-used
-returns c = cc
+returns c = rw (c .text-word .ensures)
 
 pub text-used-spec : {M : Type 1} → statement M
 text-used-spec = tie.close (tie.spec

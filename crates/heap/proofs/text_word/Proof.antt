@@ -5,7 +5,7 @@ use Rattle.heap.proofs.text_word.Tie as tie
 
 returns : tie.Need-returns
 unfolding text-word
-returns c = cc
+returns c = rw (c .word .ensures, c .before .wide .ensures)
 
 pub text-word-spec : {M : Type 1} → statement M
 text-word-spec = tie.close (tie.spec
