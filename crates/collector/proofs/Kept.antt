@@ -18,7 +18,7 @@ use Rattle.heap.proofs.Held.{frame-counted, text-counted, frames-once, texts-on
 use Rattle.mark.specs.Mark.{mark-all}
 use Rattle.mark.specs.Reached.{Reached}
 use Rattle.mark.proofs.ReachLaws.{reached-in-use}
-use Rattle.state_form.specs.declared.Limits.{Limits}
+use Rattle.frame_form.specs.declared.Limits.{Limits}
 use Rattle.state_form.specs.Form.{ValueFormed, FrameFormed, TextFormed, StateWellFormed}
 use Rattle.state_form.proofs.Facts.{well-formed-closed}
 use Rattle.state_form.proofs.Kept.{frame-stays as formed-frame-stays, text-stays as formed-text-stays}

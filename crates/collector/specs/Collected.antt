@@ -12,7 +12,7 @@ use Rattle.heap.specs.Words.{self-held, program-held, position, end-mark}
 use Rattle.heap.specs.Held.{frame-held, text-held, frames-held}
 use Rattle.heap.specs.Closed.{FrameInUse, TextInUse, Closed}
 use Rattle.mark.specs.Reached.{Reached}
-use Rattle.state_form.specs.declared.Limits.{Limits}
+use Rattle.frame_form.specs.declared.Limits.{Limits}
 use Rattle.state_form.specs.Form.{StateWellFormed}
 use Rattle.collector.specs.Collect.{collect-heap}
 

@@ -23,7 +23,7 @@ use Rattle.heap.specs.Held.{frames-held}
 use Rattle.paths.specs.Paths.{path-held}
 use Rattle.puts.specs.Puts.{target-along, put-slot}
 use Rattle.operands.specs.Operands.{operand-value}
-use Rattle.state_form.specs.declared.Limits.{Limits}
+use Rattle.frame_form.specs.declared.Limits.{Limits}
 use Rattle.bounded.specs.Check.{Target, jump-result}
 use Rattle.bounded.specs.Bounded.{Bounded, value-given, evaluate, commit-assign, commit-jump, commit, heap-in}
 use Rattle.checking.specs.Checking.{AssignsOrShows}

@@ -16,7 +16,7 @@ use Rattle.heap.specs.Held.{frames-in-use, texts-in-use}
 use Rattle.heap.specs.Closed.{Sized}
 use Rattle.heap.proofs.Lists.{zeros-at, passing-none}
 use Rattle.heap.proofs.Laws.{frame-word-free, text-word-free}
-use Rattle.state_form.specs.declared.Limits.{Limits}
+use Rattle.frame_form.specs.declared.Limits.{Limits}
 use Rattle.state_form.specs.Form.{StateWellFormed}
 use Rattle.state_form.proofs.Facts.{well-formed-sized}
 use Rattle.state_form.proofs.Kept.{blank-formed}

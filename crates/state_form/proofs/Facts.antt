@@ -17,10 +17,11 @@ use Rattle.heap.specs.Words.{value-of, tag-of, number-of, self-held, program-he
 use Rattle.heap.specs.Held.{frames-in-use, texts-in-use}
 use Rattle.heap.proofs.Laws.{value-case}
 use Rattle.heap.specs.Closed.{Sized, FrameInUse, TextInUse, NamesInUse, Closed}
-use Rattle.state_form.specs.declared.Limits.{Limits}
+use Rattle.frame_form.specs.declared.Limits.{Limits}
 use Rattle.state_form.specs.Form.{ValueFormed, SlotFormed, FrameFormed, TextFormed, StateWellFormed}
-use Rattle.state_form.specs.Tests.{frame-in-use, text-in-use, value-formed, name-apart, name-new, slot-formed, slots-formed, frame-formed, frames-formed}
-use Rattle.state_form.specs.Tests.{text-byte-formed, text-bytes-formed, text-formed, texts-formed, counts-formed, position-formed, end-formed, roots-formed, parts-formed, state-well-formed, Decides, StateDecides}
+use Rattle.frame_form.specs.Tests.{frame-in-use, text-in-use, value-formed, name-apart, name-new, slot-formed, slots-formed, frame-formed, frames-formed}
+use Rattle.text_form.specs.Tests.{text-byte-formed, text-bytes-formed, text-formed, texts-formed}
+use Rattle.state_form.specs.Tests.{counts-formed, position-formed, end-formed, roots-formed, parts-formed, state-well-formed, Decides, StateDecides}
 use Rattle.state_form.proofs.Decide.{Both, Every, decides-lt, decides-le, decides-eq, decides-ne, decides-itself, decides-and, decides-or, decides-as, decides-all}
 
 -- ---- Values

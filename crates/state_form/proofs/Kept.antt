@@ -24,7 +24,7 @@ use Rattle.heap.proofs.Laws.{set-slot-local, set-slot-tag, set-slot-number, set
 use Rattle.heap.proofs.Laws.{add-slot-is, add-slot-local, add-slot-count, add-slot-name, add-slot-tag, add-slot-number, add-slot-old-name, add-slot-old-tag, add-slot-old-number}
 use Rattle.heap.proofs.Laws.{take-frame-local, take-frame-word, take-frame-used, take-frame-count, take-text-local, take-text-word, set-byte-other}
 use Rattle.heap.proofs.Held.{low-frames, low-texts, high-frames, used-same, widen, body-used, take-frame-count-one, take-text-used, take-text-count-one}
-use Rattle.state_form.specs.declared.Limits.{Limits}
+use Rattle.frame_form.specs.declared.Limits.{Limits}
 use Rattle.state_form.specs.Form.{ValueFormed, SlotFormed, FrameFormed, TextFormed, StateWellFormed}
 use Rattle.state_form.proofs.Facts.{NamesThere, write-formed, well-formed-sized}
 

@@ -11,7 +11,7 @@ use Rattle.framed.specs.Bytes.{string-byte}
 use Rattle.heap.specs.Words.{position, end-mark, frame-word, slot-count-at, slot-name-at, slot-tag-at, slot-number-at, text-length, text-byte}
 use Rattle.heap.specs.Held.{frames-in-use, texts-in-use}
 use Rattle.heap.specs.Closed.{FrameInUse, TextInUse}
-use Rattle.state_form.specs.declared.Limits.{Limits}
+use Rattle.frame_form.specs.declared.Limits.{Limits}
 
 -- what the value names is there (tags: 0 integer, 1 literal, 2 made text, 3 code, 4 frame)
 pub record ValueFormed (h : List ℕ) (l : Limits) (tag n : ℕ) : Type 0 where

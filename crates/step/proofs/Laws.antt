@@ -9,7 +9,7 @@ use borrow.Author.Tests.{ne-eqb}
 use Rattle.words.specs.Words.{word}
 use Rattle.trees.specs.Held.{remaining}
 use Rattle.heap.specs.Words.{set-end-mark}
-use Rattle.state_form.specs.declared.Limits.{Limits}
+use Rattle.frame_form.specs.declared.Limits.{Limits}
 use Rattle.state_form.specs.Form.{StateWellFormed}
 use Rattle.wellformed.specs.WellFormed.{limits, WellFormed}
 use Rattle.checking.proofs.Memories.{well-formed-checks}

@@ -14,7 +14,7 @@ use Rattle.word_store.specs.Store.{Memories, memories}
 use Rattle.word_store.specs.State.{store-held, state-held, with-program, with-remaining, HeaderFormed}
 use Rattle.word_store.proofs.Header.{clear-word}
 use Rattle.word_store.proofs.Updates.{held-after, header-after}
-use Rattle.state_form.specs.declared.Limits.{Limits}
+use Rattle.frame_form.specs.declared.Limits.{Limits}
 use Rattle.commit.specs.Words.{heap-of}
 use Rattle.commit.proofs.Headers.{self-size, program-size, position-size}
 use Rattle.running.specs.Cleared.{Cleared}

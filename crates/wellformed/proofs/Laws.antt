@@ -6,7 +6,7 @@ use Prim.Native.Nat.{ℕ}
 use borrow.Author.Tests.{not-true, not-false}
 use Rattle.tables.specs.Fields.{frame-limit, text-limit, names, literals, codes, instructions}
 use Rattle.program_form.specs.WellFormed.{program-well-formed}
-use Rattle.state_form.specs.declared.Limits.{Limits}
+use Rattle.frame_form.specs.declared.Limits.{Limits}
 use Rattle.state_form.specs.Tests.{state-well-formed}
 use Rattle.wellformed.specs.WellFormed.{limits, well-formed}
 

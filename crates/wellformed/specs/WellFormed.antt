@@ -10,7 +10,7 @@ use Rattle.program_form.specs.WellFormed as program
 use Rattle.program_form.specs.WellFormed.{program-well-formed}
 use Rattle.program_form.specs.Sound.{Sound}
 use Rattle.heap.specs.Closed.{Closed}
-use Rattle.state_form.specs.declared.Limits.{Limits}
+use Rattle.frame_form.specs.declared.Limits.{Limits}
 use Rattle.state_form.specs.Form.{StateWellFormed}
 use Rattle.state_form.specs.Tests.{state-well-formed}
 

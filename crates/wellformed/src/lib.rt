@@ -1,5 +1,5 @@
 // Whether the four memories are well-formed (document 01: whole). For slices of any lengths, with no `requires`.
-use state_form::Limits;
+use frame_form::Limits;
 ghost use mathlib.Core.Path.{_≡_};
 ghost use Rattle.wellformed.specs.WellFormed.{limits, well-formed};
 

@@ -11,7 +11,7 @@ use Rattle.heap.specs.Closed.{Sized}
 use Rattle.heap.proofs.Lists.{passing-below}
 use Rattle.heap.proofs.Laws.{Local, text-length-word}
 use Rattle.heap.proofs.Held.{low-sized}
-use Rattle.state_form.specs.declared.Limits.{Limits}
+use Rattle.frame_form.specs.declared.Limits.{Limits}
 use Rattle.state_form.specs.Form.{ValueFormed, FrameFormed, StateWellFormed}
 use Rattle.state_form.proofs.Facts.{well-formed-sized}
 use Rattle.state_form.proofs.Kept.{text-stays}

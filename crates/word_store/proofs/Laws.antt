@@ -36,7 +36,7 @@ use Rattle.allocation.proofs.Laws.{next-frame-below, next-frame-free, next-text
 use Rattle.allocation.proofs.Views.{shows-frame, shows-no-frame, shows-text, shows-no-text, frames-counted, texts-counted}
 use Rattle.puts.specs.Puts.{put-slot}
 use Rattle.puts.proofs.Kept.{put-frames, put-in-use, put-texts}
-use Rattle.state_form.specs.declared.Limits.{Limits}
+use Rattle.frame_form.specs.declared.Limits.{Limits}
 use Rattle.state_form.specs.Form.{StateWellFormed}
 use Rattle.state_form.proofs.Facts.{well-formed-closed}
 use Rattle.state_form.proofs.Kept.{set-self-formed, set-program-formed, take-frame-formed, add-slot-formed}

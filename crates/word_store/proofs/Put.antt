@@ -23,7 +23,7 @@ use Rattle.paths.specs.Paths.{slot-from}
 use Rattle.puts.specs.Puts.{put-found, put-slot}
 use Rattle.paths.proofs.Slots.{slot-hit, slot-miss}
 use Rattle.puts.proofs.Laws.{place-none}
-use Rattle.state_form.specs.declared.Limits.{Limits}
+use Rattle.frame_form.specs.declared.Limits.{Limits}
 use Rattle.state_form.specs.Form.{StateWellFormed}
 use Rattle.state_form.proofs.Facts.{NamesThere}
 use Rattle.state_form.proofs.Kept.{set-slot-formed, add-slot-formed}

@@ -15,7 +15,7 @@ use Rattle.bounded.specs.Theorems.{Admitted}
 use Rattle.bounded.proofs.Theorems.{bounded-calls}
 use Rattle.allocation.specs.Allocation.{view-held}
 use Rattle.allocation.proofs.Views.{frames-counted, texts-counted}
-use Rattle.state_form.specs.declared.Limits.{Limits}
+use Rattle.frame_form.specs.declared.Limits.{Limits}
 use Rattle.state_form.specs.Form.{StateWellFormed}
 use Rattle.word_store.specs.Store.{Memories, clear-header, word-store}
 use Rattle.word_store.specs.Form.{LimitsOf}

@@ -19,7 +19,7 @@ use Rattle.heap.proofs.Held.{texts-length, take-text-texts, take-text-used, tak
 use Rattle.bounded.specs.Views.{text-at, TextWritten}
 use Rattle.bounded.specs.Fits.{StringBytes}
 use Rattle.allocation.specs.Allocation.{view-held}
-use Rattle.state_form.specs.declared.Limits.{Limits}
+use Rattle.frame_form.specs.declared.Limits.{Limits}
 use Rattle.state_form.specs.Form.{StateWellFormed}
 use Rattle.state_form.proofs.Kept.{set-byte-formed, take-text-formed}
 use Rattle.word_store.specs.Store.{write-text}

@@ -24,7 +24,7 @@ use Rattle.paths.specs.Paths.{slot-from}
 use Rattle.puts.specs.Puts.{put-found, put-slot}
 use Rattle.mark.specs.Mark.{mark-all}
 use Rattle.collector.specs.Collect.{frame-unmarked, text-unmarked, sweep-from, sweep-frames, sweep-texts, swept, collect-heap}
-use Rattle.state_form.specs.declared.Limits.{Limits}
+use Rattle.frame_form.specs.declared.Limits.{Limits}
 use Rattle.bounded.specs.Bounded.{Bounded, over-store, with-mark, collected}
 use Rattle.word_store.specs.Store.{Memories, memories, clear-header, claim-frame, write-text, claim-text, word-store}
 use Rattle.word_store.specs.State.{store-held, state-held, with-self, with-program, with-remaining, HeldRead, HeldAfter, HeaderFormed, HeaderAfter}

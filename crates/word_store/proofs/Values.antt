@@ -24,7 +24,7 @@ use Rattle.bounded.specs.Views.{frame-at, text-at}
 use Rattle.bounded.specs.Fits.{Valid, valid-integer, valid-literal, valid-made, valid-code, valid-frame}
 use Rattle.allocation.specs.Allocation.{view-held}
 use Rattle.allocation.proofs.Views.{shows-frame, shows-no-frame, shows-frame-past, shows-text, shows-no-text, shows-text-past}
-use Rattle.state_form.specs.declared.Limits.{Limits}
+use Rattle.frame_form.specs.declared.Limits.{Limits}
 use Rattle.state_form.specs.Form.{ValueFormed}
 use Rattle.state_form.proofs.Facts.{NamesThere}
 use Rattle.word_store.specs.Form.{LimitsOf, ValuesAgree}

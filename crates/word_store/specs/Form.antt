@@ -11,7 +11,7 @@ use Rattle.heap.specs.Held.{frames-in-use, texts-in-use}
 use Rattle.heap.specs.Closed.{FrameInUse, TextInUse}
 use Rattle.allocation.specs.Allocation.{view-held}
 use Rattle.bounded.specs.Fits.{Valid}
-use Rattle.state_form.specs.declared.Limits.{Limits}
+use Rattle.frame_form.specs.declared.Limits.{Limits}
 use Rattle.state_form.specs.Form.{ValueFormed, FrameFormed, TextFormed, StateWellFormed}
 
 -- sizes, what is in use or not, frames and made texts

@@ -15,7 +15,7 @@ use Rattle.heap.specs.Held.{frames-in-use, texts-in-use}
 use Rattle.allocation.specs.Allocation.{next-frame, next-text, view-held}
 use Rattle.puts.specs.Puts.{put-slot}
 use Rattle.collector.specs.Collect.{collect-heap}
-use Rattle.state_form.specs.declared.Limits.{Limits}
+use Rattle.frame_form.specs.declared.Limits.{Limits}
 use Rattle.state_form.specs.Form.{StateWellFormed}
 use Rattle.bounded.specs.Store.{Laws}
 use Rattle.bounded.specs.Bounded.{Bounded, over-store, with-mark, run, collected}

@@ -5,7 +5,13 @@ use Rattle.heap.proofs.set_program.Tie as tie
 
 returns : tie.Need-returns
 unfolding set-program
-returns c = rw (c .before .before .set-word2 .ensures, c .before .before .before .number-of .ensures, c .before .before .before .before .before .before .before .set-word .ensures, c .before .before .before .before .before .before .before .before .tag-of .ensures)
+returns c =
+    rw (
+      c .before .before .set-word2 .ensures,
+      c .before .before .before .number-of .ensures,
+      c .before .before .before .before .before .before .before .set-word .ensures,
+      c .before .before .before .before .before .before .before .before .tag-of .ensures,
+    )
 
 pub set-program-spec : {M : Type 1} → statement M
 set-program-spec =

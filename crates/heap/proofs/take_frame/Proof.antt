@@ -5,7 +5,13 @@ use Rattle.heap.proofs.take_frame.Tie as tie
 
 returns : tie.Need-returns
 unfolding take-frame
-returns c = rw (c .before .before .set-word2 .ensures, c .before .before .before .wide2 .ensures, c .before .before .before .before .before .before .before .set-word .ensures, c .before .before .before .before .before .before .before .before .wide .ensures)
+returns c =
+    rw (
+      c .before .before .set-word2 .ensures,
+      c .before .before .before .wide2 .ensures,
+      c .before .before .before .before .before .before .before .set-word .ensures,
+      c .before .before .before .before .before .before .before .before .wide .ensures,
+    )
 
 pub take-frame-spec : {M : Type 1} → statement M
 take-frame-spec =

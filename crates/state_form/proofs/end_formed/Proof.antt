@@ -5,7 +5,7 @@ use Rattle.state_form.proofs.end_formed.Tie as tie
 
 returns : tie.Need-returns
 unfolding end-formed
-returns c = cc
+returns c = rw (c .end-mark .ensures)
 
 pub end-formed-spec : {M : Type 1} → statement M
 end-formed-spec = tie.close (tie.spec

@@ -5,7 +5,8 @@ use Rattle.state_form.proofs.parts_formed.Tie as tie
 
 returns : tie.Need-returns
 unfolding parts-formed
-returns c = cc
+returns c =
+    rw (c .end-formed .ensures, c .before .position-formed .ensures, c .before .before .counts-formed .ensures, c .before .before .before .texts-formed .ensures, c .before .before .before .before .frames-formed .ensures, c .before .before .before .before .before .roots-formed .ensures)
 
 pub parts-formed-spec : {M : Type 1} → statement M
 parts-formed-spec =

@@ -5,7 +5,7 @@ use Rattle.state_form.proofs.position_formed.Tie as tie
 
 returns : tie.Need-returns
 unfolding position-formed
-returns c = cc
+returns c = rw (c .before .position .ensures)
 
 pub position-formed-spec : {M : Type 1} → statement M
 position-formed-spec = tie.close (tie.spec
