@@ -1,4 +1,4 @@
--- What each way through the functions gives, and what a jump and an `ifeq` give, which the crate `direct` makes. Assumes nothing.
+-- What each way through the functions gives, and what a jump and an `ifeq` give, which the crate `step_jump` makes. Assumes nothing.
 use Prim.Native.Nat.{ℕ, zero, suc, _≤_, _<_}
 use mathlib.Core.Path.{_≡_, refl, _∙_, ap, sym}
 use mathlib.Core.List.{List, [], _∷_}

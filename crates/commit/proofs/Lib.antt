@@ -4,3 +4,5 @@ pub mod Headers
 pub mod Laws
 pub mod Ready
 pub mod Exact
+pub mod Meaning
+pub mod Direct

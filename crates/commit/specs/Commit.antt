@@ -1,5 +1,5 @@
 -- Document 01, "The endless machine", what an instruction does, over the words: it is the bounded machine's `commit` on the state that the words hold. For an
--- assignment or a show it is what this crate does, for a jump and an `ifeq` what the crate `direct` does. Assumes nothing.
+-- assignment or a show it is what this crate does, for a jump and an `ifeq` what the crate `step_jump` does. Assumes nothing.
 use Prim.Native.Nat.{ℕ, _<_}
 use mathlib.Core.Path.{_≡_}
 use mathlib.Core.Bool.{Bool, true, false}
@@ -74,7 +74,7 @@ pub record Assigns (p l h t : List ℕ) (path : Path) (x : ℕ) (h′ t′ : Lis
   pub size : length h′ ≡ 16384
   pub text-size : length t′ ≡ 16384
 
--- ---- Jumps, which the crate `direct` makes
+-- ---- Jumps, which the crate `step_jump` makes
 
 unfoldable pub first-place : List ℕ → ℕ → ℕ
 first-place p k = pick (leb (codes p) k) 0 (code-first p k)

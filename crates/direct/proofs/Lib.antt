@@ -1,6 +1,2 @@
-pub mod Ends
 pub mod Making
-pub mod Laws
-pub mod Values
-pub mod Assignment
 pub mod Does

@@ -5,9 +5,9 @@ use mathlib.Core.List.{List}
 use Rattle.heap.specs.Words.{set-end-mark}
 use Rattle.allocation.specs.declared.Known.{Known}
 use Rattle.allocation.specs.Known.{Knows}
+use Rattle.commit.specs.Direct as direct
+use Rattle.commit.specs.Direct.{CanDo, MakesNothing, MakesOrShows, IsMade, IsEnded, Does}
 use Rattle.commit.specs.Words.{WordsFit}
-use Rattle.direct.specs.Direct as direct
-use Rattle.direct.specs.Direct.{CanDo, MakesNothing, MakesOrShows, IsMade, IsEnded, Does}
 use Rattle.step.specs.declared.Outcome.{Outcome}
 use Rattle.step.specs.Step.{RoomFor, Formed, CanStep, CanAttempt, Attempts}
 use Rattle.step.proofs.Reserve.{nothing-reserved}

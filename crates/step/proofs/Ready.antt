@@ -18,9 +18,9 @@ use Rattle.reserving.specs.declared.Reserved.{Reserved}
 use Rattle.reserving.specs.Reserving.{Reserves, Reckons}
 use Rattle.reserving.proofs.Meaning.{reserved-header}
 use Rattle.commit.specs.Commit.{state-of}
+use Rattle.commit.specs.Direct.{MakesOrShows, end-met}
 use Rattle.commit.specs.Words.{WordsFit}
 use Rattle.checking.specs.Checking.{AssignsOrShows}
-use Rattle.direct.specs.Direct.{MakesOrShows, end-met}
 use Rattle.direct.proofs.Making.{left-form}
 use Rattle.step.specs.declared.Outcome.{Outcome}
 use Rattle.step.specs.Step.{frames-for, texts-for, ready-words, RoomFor, Formed, CanStep, step-end-held, line-held, attempt-step, CanAttempt, Attempts, AttemptsQuietly, ready-state, machine-run}

@@ -14,9 +14,9 @@ use Rattle.allocation.specs.Known.{TextsFull, Full, Knows}
 use Rattle.checking.specs.Checking.{AssignsOrShows, ChecksInstruction}
 use Rattle.reserving.specs.Reserving.{room-end-held, reserved-words, Reserves}
 use Rattle.commit.specs.Commit.{CanCommit, Commits}
+use Rattle.commit.specs.Direct.{end-met}
 use Rattle.commit.specs.Words.{WordsFit}
 use Rattle.commit.proofs.Ready.{can-commit}
-use Rattle.direct.specs.Direct.{end-met}
 use Rattle.step.specs.declared.Shown.{Shown}
 use Rattle.step.specs.declared.Outcome.{Outcome}
 use Rattle.step.specs.Step.{frames-for, texts-for, RoomFor, CanStep, Shows, CanAttempt, Attempts, AttemptsQuietly}

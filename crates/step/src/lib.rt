@@ -9,7 +9,7 @@ ghost use Rattle.step.specs.Step.{frames-for, texts-for};
 ghost use Rattle.allocation.specs.Known.{Knows};
 ghost use Rattle.reserving.specs.Reserving.{Reserves, Reckons};
 ghost use Rattle.checking.specs.Checking.{AssignsOrShows};
-ghost use Rattle.direct.specs.Direct.{MakesOrShows};
+ghost use Rattle.commit.specs.Direct.{MakesOrShows};
 ghost use Rattle.step_join.specs.Join.{joins-entry};
 
 // What became of the line of an instruction: its size, where there was space for it.

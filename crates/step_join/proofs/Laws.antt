@@ -49,11 +49,11 @@ use Rattle.producing.proofs.Laws.{produce-joined}
 use Rattle.evaluation.specs.Evaluation.{CanEvaluate, Evaluates}
 use Rattle.evaluation.proofs.Simple.{operation-made, flat-can}
 use Rattle.commit.specs.Commit.{put-along, root-of, set-root, path-of, Assigns}
+use Rattle.commit.specs.Direct.{end-met}
 use Rattle.commit.proofs.Assignment.{assignment-entry}
 use Rattle.commit.proofs.Laws.{put-somewhere, sets-root, puts-root}
-use Rattle.direct.specs.Direct.{end-met}
+use Rattle.commit.proofs.Meaning.{Assignment, root-path}
 use Rattle.step_join.specs.Join.{joins-entry, CanAssignJoin, CanPutJoin, JoinsOnce}
-use Rattle.direct.proofs.Assignment.{Assignment, root-path}
 
 -- ---- joins
 

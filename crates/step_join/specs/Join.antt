@@ -13,7 +13,7 @@ use Rattle.joining.specs.Joining.{join-end}
 use Rattle.operands.specs.Operands.{operand-value}
 use Rattle.checking.specs.Checking.{ChecksInstruction}
 use Rattle.commit.specs.Commit.{CanCommit, Commits}
-use Rattle.direct.specs.Direct.{end-met}
+use Rattle.commit.specs.Direct.{end-met}
 
 -- instruction i is one: kind 12 is `#`
 unfoldable pub joins-entry : List ℕ → ℕ → Bool
