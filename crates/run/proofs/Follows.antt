@@ -23,7 +23,7 @@ use Rattle.word_store.specs.Store.{word-store}
 use Rattle.word_store.specs.State.{state-held, HeaderFormed}
 use Rattle.running.specs.Running.{bounded-held, bounded-run}
 use Rattle.running.proofs.Laws.{bounded-form}
-use Rattle.step.specs.Step.{Formed, CanStep}
+use Rattle.step_parts.specs.Step.{Formed, CanStep}
 use Rattle.step_held.specs.StepHeld.{AttemptHeld, ends, lacks-space, makes}
 use Rattle.step_held.proofs.Attempt.{step-held}
 use Rattle.stops.specs.Stops.{stop-of}

@@ -8,7 +8,7 @@ use lib.ListN.{length}
 use borrow.Author.Tests.{not-true, not-false}
 use types.Run.{OneOf, miss}
 use denote.Enum.Declared.{tagOf}
-use Rattle.step.proofs.Outcome.{the-type}
+use Rattle.step_parts.proofs.Outcome.{the-type}
 use mir.Syntax.{w64}
 use mir.Val.{Fits}
 use Rattle.framed.specs.declared.Stop.{Stop}
@@ -25,8 +25,8 @@ use Rattle.splice.specs.Splice.{splice}
 use Rattle.splice.proofs.Laws.{splice-length}
 use Rattle.wellformed.specs.WellFormed.{limits, WellFormed, well-formed}
 use Rattle.wellformed.proofs.Decides.{well-formed-decides}
-use Rattle.step.specs.declared.Outcome.{Outcome}
-use Rattle.step.specs.Step.{Formed, CanAttempt, Attempted, Attempts}
+use Rattle.step_parts.specs.declared.Outcome.{Outcome}
+use Rattle.step_parts.specs.Step.{Formed, CanAttempt, Attempted, Attempts}
 use Rattle.step_held.specs.StepHeld.{AttemptHeld, ends, lacks-space, makes}
 use Rattle.step_held.proofs.Attempt.{step-held}
 use Rattle.run.specs.Run.{Finished, finished, more-steps, by-outcome, after-attempt, run-from, Running, running, run-call, RunMeans}

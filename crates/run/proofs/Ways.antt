@@ -8,7 +8,7 @@ use native.Mathlib.Decide.{ℕ-discrete}
 use Rattle.framed.specs.declared.Stop.{Stop}
 use Rattle.framed.specs.Answers.{Stopped, stop-word}
 use Rattle.heap.specs.Words.{position, end-mark}
-use Rattle.step.specs.Step.{attempt-step}
+use Rattle.step_parts.specs.Step.{attempt-step}
 use Rattle.stops.specs.Stops.{stop-of}
 use Rattle.run.specs.Run.{Finished, finished, unless-ended, after-attempt, run-from}
 

@@ -11,8 +11,8 @@ use Rattle.splice.specs.Splice.{splice}
 use Rattle.wellformed.specs.WellFormed.{limits, WellFormed}
 use Rattle.word_store.specs.State.{HeaderFormed}
 use Rattle.running.specs.Running.{bounded-held, bounded-run}
-use Rattle.step.specs.declared.Outcome.{Outcome}
-use Rattle.step.specs.Step.{Formed}
+use Rattle.step_parts.specs.declared.Outcome.{Outcome}
+use Rattle.step_parts.specs.Step.{Formed}
 use Rattle.run.specs.Run.{Finished, more-steps, run-from}
 
 -- the definition against the bounded machine

@@ -17,8 +17,8 @@ use Rattle.heap.specs.Words.{position, end-mark}
 use Rattle.stops.specs.Stops.{stop-of}
 use Rattle.wellformed.specs.WellFormed.{WellFormed, well-formed}
 use Rattle.wellformed.specs.Held.{state-held}
-use Rattle.step.specs.declared.Outcome.{Outcome}
-use Rattle.step.specs.Step.{Attempted, attempt-step}
+use Rattle.step_parts.specs.declared.Outcome.{Outcome}
+use Rattle.step_parts.specs.Step.{Attempted, attempt-step}
 
 -- ---- The run, step by step
 

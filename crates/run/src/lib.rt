@@ -3,9 +3,9 @@ use allocation::Known;
 use framed::RunAnswer;
 use framed::RunReport;
 use framed::Stop;
-use step::Outcome;
+use step_parts::Outcome;
 ghost use mathlib.Core.Path.{_≡_};
-ghost use Rattle.step.specs.Step.{Formed};
+ghost use Rattle.step_parts.specs.Step.{Formed};
 ghost use Rattle.run.specs.Run.{running, run-call, RunMeans};
 ghost use Rattle.run.specs.Loop.{stop-after, Runs};
 

@@ -8,11 +8,11 @@ use Rattle.allocation.specs.Known.{Knows}
 use Rattle.commit.specs.Direct as direct
 use Rattle.commit.specs.Direct.{CanDo, MakesNothing, MakesOrShows, IsMade, IsEnded, Does}
 use Rattle.commit.specs.Words.{WordsFit}
-use Rattle.step.specs.declared.Outcome.{Outcome}
-use Rattle.step.specs.Step.{RoomFor, Formed, CanStep, CanAttempt, Attempts}
-use Rattle.step.proofs.Reserve.{nothing-reserved}
-use Rattle.step.proofs.Ends.{can-reserve}
-use Rattle.step.proofs.Room.{ended-quietly, ended-then-knows, made-quietly, made-then-knows}
+use Rattle.step_parts.specs.declared.Outcome.{Outcome}
+use Rattle.step_parts.specs.Step.{RoomFor, Formed, CanStep, CanAttempt, Attempts}
+use Rattle.step_parts.proofs.Reserve.{nothing-reserved}
+use Rattle.step_parts.proofs.Ends.{can-reserve}
+use Rattle.step_parts.proofs.Room.{ended-quietly, ended-then-knows, made-quietly, made-then-knows}
 
 module _ (p l h t : List ℕ) (i : ℕ) (can : CanStep p l h t i) where
   pub can-do : CanDo p l h t i

@@ -9,9 +9,9 @@ use Rattle.allocation.specs.Known.{Knows}
 use Rattle.commit.specs.Words.{WordsFit}
 use Rattle.step_join.specs.Join.{joins-entry, CanAssignJoin, JoinsOnce}
 use Rattle.step_join.proofs.Laws.{join-form, join-no-show}
-use Rattle.step.specs.declared.Outcome.{Outcome}
-use Rattle.step.specs.Step.{RoomFor, CanStep, AttemptsQuietly}
-use Rattle.step.proofs.Room.{room-checks, room-commits, ended-quietly, ended-then-knows, made-quietly, made-then-knows}
+use Rattle.step_parts.specs.declared.Outcome.{Outcome}
+use Rattle.step_parts.specs.Step.{RoomFor, CanStep, AttemptsQuietly}
+use Rattle.step_parts.proofs.Room.{room-checks, room-commits, ended-quietly, ended-then-knows, made-quietly, made-then-knows}
 
 module _ (p l h t : List ℕ) (i : ℕ) (can : CanStep p l h t i) (k : Known) (w : RoomFor p h i k) (is : joins-entry p i ≡ true) where
   pub can-assign : CanAssignJoin p l h t i

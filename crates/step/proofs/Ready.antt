@@ -22,13 +22,13 @@ use Rattle.commit.specs.Direct.{MakesOrShows, end-met}
 use Rattle.commit.specs.Words.{WordsFit}
 use Rattle.checking.specs.Checking.{AssignsOrShows}
 use Rattle.direct.proofs.Making.{left-form}
-use Rattle.step.specs.declared.Outcome.{Outcome}
-use Rattle.step.specs.Step.{frames-for, texts-for, ready-words, RoomFor, Formed, CanStep, step-end-held, line-held, attempt-step, CanAttempt, Attempts, AttemptsQuietly, ready-state, machine-run}
-use Rattle.step.proofs.Ends.{formed-now, ready-formed, end-of-reserve, end-of-check}
-use Rattle.step.proofs.Runs.{ready-is, run-ended, run-no-space, run-made}
-use Rattle.step.proofs.Known.{ended-knows}
-use Rattle.step.proofs.Laws.{attempt-ended}
-use Rattle.step.proofs.Room.{reserves-none}
+use Rattle.step_parts.specs.declared.Outcome.{Outcome}
+use Rattle.step_parts.specs.Step.{frames-for, texts-for, ready-words, RoomFor, Formed, CanStep, step-end-held, line-held, attempt-step, CanAttempt, Attempts, AttemptsQuietly, ready-state, machine-run}
+use Rattle.step_parts.proofs.Ends.{formed-now, ready-formed, end-of-reserve, end-of-check}
+use Rattle.step_parts.proofs.Runs.{ready-is, run-ended, run-no-space, run-made}
+use Rattle.step_parts.proofs.Known.{ended-knows}
+use Rattle.step_parts.proofs.Laws.{attempt-ended}
+use Rattle.step_parts.proofs.Room.{reserves-none}
 
 module _ (p l h t : List ℕ) (i : ℕ) (can : CanStep p l h t i) (r : ℕ) (h₁ : List ℕ) (k : Reserves p h (frames-for p i) (texts-for p i) r h₁) where
   formed : WellFormed p h₁ l t

@@ -36,8 +36,8 @@ use Rattle.running.specs.Running.{bounded-held, bounded-run, BoundedForm}
 use Rattle.running.specs.Cleared.{Cleared}
 use Rattle.running.proofs.Laws.{bounded-form}
 use Rattle.running.proofs.Cleared.{cleared-through}
-use Rattle.step.specs.Step.{frames-for, texts-for, Formed, CanStep, ready-words, step-end-held, line-held, committed, committed-heap, committed-text, attempt-step, ready-state, machine-run}
-use Rattle.step.proofs.Runs.{ready-is, run-ended, run-no-space, run-made, run-zero}
+use Rattle.step_parts.specs.Step.{frames-for, texts-for, Formed, CanStep, ready-words, step-end-held, line-held, committed, committed-heap, committed-text, attempt-step, ready-state, machine-run}
+use Rattle.step_parts.proofs.Runs.{ready-is, run-ended, run-no-space, run-made, run-zero}
 use Rattle.step_held.specs.StepHeld.{EndHeld, SpaceHeld, MadeHeld, AttemptHeld, ends, lacks-space, makes, StepHeld}
 use Rattle.step_held.proofs.Position.{position-remains, position-small}
 use Rattle.step_held.proofs.Words.{words-hold, words-header}

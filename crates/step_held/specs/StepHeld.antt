@@ -11,8 +11,8 @@ use Rattle.bounded.specs.Bounded.{stopped, one-more}
 use Rattle.word_store.specs.Store.{word-store}
 use Rattle.word_store.specs.State.{HeaderFormed}
 use Rattle.running.specs.Running.{bounded-held, bounded-run}
-use Rattle.step.specs.declared.Outcome.{Outcome}
-use Rattle.step.specs.Step.{CanStep, attempted, attempt-step}
+use Rattle.step_parts.specs.declared.Outcome.{Outcome}
+use Rattle.step_parts.specs.Step.{CanStep, attempted, attempt-step}
 
 module _ (p l h t : List ℕ) (i : ℕ) (out : List ℕ) (used : ℕ) where
   -- the end that the step gives; no space for its line; the step made

@@ -15,7 +15,7 @@ use Rattle.allocation.specs.Known.{Knows}
 use Rattle.reserving.specs.declared.Reserved.{Reserved}
 use Rattle.reserving.specs.Reserving.{room-end-held, reserved-words, Reserves, Reckons}
 use Rattle.commit.proofs.Ready.{reserved-room}
-use Rattle.step.specs.Step.{frames-for, texts-for, CanReserve}
+use Rattle.step_parts.specs.Step.{frames-for, texts-for, CanReserve}
 
 -- where there is room nothing was cut off
 cap-exact : (n m : ℕ) → m ≡ cap n → m ≤ 256 → m ≡ n

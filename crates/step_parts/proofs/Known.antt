@@ -30,9 +30,9 @@ use Rattle.word_store.proofs.Updates.{held-read}
 use Rattle.producing.proofs.Leaves.{in-use-stay, texts-stay}
 use Rattle.running.proofs.Laws.{bounded-form}
 use Rattle.commit.specs.Commit.{state-of, Commits}
-use Rattle.step.specs.Step.{frames-for, texts-for, CanStep, step-end-held, ready-state}
-use Rattle.step.proofs.Ends.{StepEnds, formed-now, ready-formed}
-use Rattle.step.proofs.Runs.{ready-is}
+use Rattle.step_parts.specs.Step.{frames-for, texts-for, CanStep, step-end-held, ready-state}
+use Rattle.step_parts.proofs.Ends.{StepEnds, formed-now, ready-formed}
+use Rattle.step_parts.proofs.Runs.{ready-is}
 
 -- ---- A mark
 

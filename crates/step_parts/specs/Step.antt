@@ -25,8 +25,8 @@ use Rattle.allocation.specs.Known.{Knows}
 use Rattle.reserving.specs.Reserving.{room-end-held, reserved-words}
 use Rattle.commit.specs.Commit.{state-of, position-after}
 use Rattle.commit.specs.Words.{heap-of, WordsFit}
-use Rattle.step.specs.declared.Shown.{Shown}
-use Rattle.step.specs.declared.Outcome.{Outcome}
+use Rattle.step_parts.specs.declared.Shown.{Shown}
+use Rattle.step_parts.specs.declared.Outcome.{Outcome}
 
 -- ---- Reserve
 

@@ -27,8 +27,8 @@ use Rattle.word_store.specs.Store.{word-store}
 use Rattle.word_store.specs.State.{store-held, state-held}
 use Rattle.evaluation.proofs.Stores.{heap-is, frames-are}
 use Rattle.operands.proofs.Literals.{same-literals}
-use Rattle.step.specs.declared.Shown.{Shown}
-use Rattle.step.specs.Step.{line-held, CanShow, show-line, Showing, showing, Shows}
+use Rattle.step_parts.specs.declared.Shown.{Shown}
+use Rattle.step_parts.specs.Step.{line-held, CanShow, show-line, Showing, showing, Shows}
 
 module _ (p l h t : List ℕ) (i : ℕ) (out : List ℕ) (used : ℕ) (can : CanShow p l h t i out used) (e : InstructionEntry) (ee : e ≡ instruction-at p i) where
   -- no line

@@ -1,39 +1,39 @@
-use Rattle.step.proofs.Reserve.{reserve-counted, reserve-nothing, reckons-counted, reckons-nothing}
+use Rattle.step_parts.proofs.Reserve.{reserve-counted, reserve-nothing, reckons-counted, reckons-nothing}
 use borrow.Author.Needs.{needs}
-use Rattle.step.proofs.reserve_for.Statement.{statement}
-use Rattle.step.proofs.reserve_for.Tie as tie
-use Rattle.step.proofs.reserve_for.Reads as reads
-use Rattle.step.proofs.reserve_for.Lts as lts
+use Rattle.step_parts.proofs.reserve_for.Statement.{statement}
+use Rattle.step_parts.proofs.reserve_for.Tie as tie
+use Rattle.step_parts.proofs.reserve_for.Reads as reads
+use Rattle.step_parts.proofs.reserve_for.Lts as lts
 use Rattle.needs.proofs.frames.Reads as frames-reads
 use Rattle.needs.proofs.needed.Reads as needed-reads
 use Rattle.needs.proofs.texts.Reads as texts-reads
 use Rattle.reserving.proofs.reserve.Reads as reserve-reads
 
--- src/lib.rt:37:9
+-- src/lib.rt:33:9
 needed-requires : tie.Need-needed-requires
 needed-requires c κs = search needs
 
--- src/lib.rt:39:9
+-- src/lib.rt:35:9
 returns : tie.Need-returns
 returns c = (search reserve-nothing, search reckons-nothing)
 
--- src/lib.rt:41:30
+-- src/lib.rt:37:30
 frames-requires : tie.Need-frames-requires
 frames-requires c κs = search needs
 
--- src/lib.rt:41:48
+-- src/lib.rt:37:48
 texts-requires : tie.Need-texts-requires
 texts-requires c κs = search needs
 
--- src/lib.rt:41:5
+-- src/lib.rt:37:5
 reserve-requires : tie.Need-reserve-requires
 reserve-requires c κs = search needs
 
--- src/lib.rt:31:1
+-- src/lib.rt:27:1
 same-length : tie.Need-same-length
 same-length c = search needs
 
--- src/lib.rt:31:1
+-- src/lib.rt:27:1
 returns-2 : tie.Need-returns-2
 returns-2 c = (search reserve-counted, search reckons-counted)
 

@@ -19,8 +19,8 @@ use Rattle.word_store.specs.State.{state-held}
 use Rattle.reserving.specs.Reserving.{room-end-held}
 use Rattle.reserving.proofs.Meaning.{reserve-ready}
 use Rattle.commit.specs.Commit.{state-of}
-use Rattle.step.specs.Step.{frames-for, texts-for, ready-words, CanStep, step-end-held, line-held, committed, ready-state, machine-run}
-use Rattle.step.proofs.Ends.{formed-now}
+use Rattle.step_parts.specs.Step.{frames-for, texts-for, ready-words, CanStep, step-end-held, line-held, committed, ready-state, machine-run}
+use Rattle.step_parts.proofs.Ends.{formed-now}
 
 module _ (p l h t : List ℕ) (i : ℕ) (can : CanStep p l h t i) where
   abbrev now : Bounded Memories

@@ -28,7 +28,7 @@ use Rattle.checking.proofs.Memories.{instruction-checks}
 use Rattle.reserving.specs.Reserving.{room-end-held, reserved-words, Reserves}
 use Rattle.reserving.proofs.Meaning.{reserve-ready, reserve-end}
 use Rattle.commit.specs.Commit.{state-of}
-use Rattle.step.specs.Step.{frames-for, texts-for, CanReserve, ready-words, Formed, CanStep, step-end-held}
+use Rattle.step_parts.specs.Step.{frames-for, texts-for, CanReserve, ready-words, Formed, CanStep, step-end-held}
 
 -- ---- The bounded machine's step, by what reserve gives
 

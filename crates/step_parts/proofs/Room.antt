@@ -17,13 +17,13 @@ use Rattle.commit.specs.Commit.{CanCommit, Commits}
 use Rattle.commit.specs.Direct.{end-met}
 use Rattle.commit.specs.Words.{WordsFit}
 use Rattle.commit.proofs.Ready.{can-commit}
-use Rattle.step.specs.declared.Shown.{Shown}
-use Rattle.step.specs.declared.Outcome.{Outcome}
-use Rattle.step.specs.Step.{frames-for, texts-for, RoomFor, CanStep, Shows, CanAttempt, Attempts, AttemptsQuietly}
-use Rattle.step.proofs.Ends.{StepEnds, formed-now, ready-checks, end-of-check}
-use Rattle.step.proofs.Line.{show-none}
-use Rattle.step.proofs.Known.{knows-now, ended-knows, made-knows}
-use Rattle.step.proofs.Laws.{attempt-shows, attempt-ended, attempt-no-space, attempt-made}
+use Rattle.step_parts.specs.declared.Shown.{Shown}
+use Rattle.step_parts.specs.declared.Outcome.{Outcome}
+use Rattle.step_parts.specs.Step.{frames-for, texts-for, RoomFor, CanStep, Shows, CanAttempt, Attempts, AttemptsQuietly}
+use Rattle.step_parts.proofs.Ends.{StepEnds, formed-now, ready-checks, end-of-check}
+use Rattle.step_parts.proofs.Line.{show-none}
+use Rattle.step_parts.proofs.Known.{knows-now, ended-knows, made-knows}
+use Rattle.step_parts.proofs.Laws.{attempt-shows, attempt-ended, attempt-no-space, attempt-made}
 
 -- reserve leaves them as they are
 pub reserves-none : (p h : List ℕ) (i : ℕ) → 0 ≡ room-end-held p h (frames-for p i) (texts-for p i) → Reserves p h (frames-for p i) (texts-for p i) 0 h

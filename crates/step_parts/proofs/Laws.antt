@@ -20,13 +20,13 @@ use Rattle.word_store.proofs.Updates.{held-after, header-after}
 use Rattle.commit.specs.Commit.{state-of, Commits}
 use Rattle.commit.specs.Words.{heap-of, WordsFit}
 use Rattle.commit.proofs.Exact.{words-exact}
-use Rattle.step.specs.declared.Shown.{Shown}
-use Rattle.step.specs.declared.Outcome.{Outcome}
-use Rattle.step.specs.Step.{ready-words, CanStep, step-end-held, line-held, CanShow, Shows, committed, committed-heap, committed-text}
-use Rattle.step.specs.Step.{attempt-step, CanAttempt, Attempts, ready-state, machine-run}
-use Rattle.step.proofs.Ends.{StepEnds, formed-now, ready-formed}
-use Rattle.step.proofs.Line.{Written, too-long, written}
-use Rattle.step.proofs.Runs.{ready-is, run-ended, run-no-space, run-made, run-zero}
+use Rattle.step_parts.specs.declared.Shown.{Shown}
+use Rattle.step_parts.specs.declared.Outcome.{Outcome}
+use Rattle.step_parts.specs.Step.{ready-words, CanStep, step-end-held, line-held, CanShow, Shows, committed, committed-heap, committed-text}
+use Rattle.step_parts.specs.Step.{attempt-step, CanAttempt, Attempts, ready-state, machine-run}
+use Rattle.step_parts.proofs.Ends.{StepEnds, formed-now, ready-formed}
+use Rattle.step_parts.proofs.Line.{Written, too-long, written}
+use Rattle.step_parts.proofs.Runs.{ready-is, run-ended, run-no-space, run-made, run-zero}
 
 -- the elements of a lent memory
 pub words-fit : {h : List ℕ} → ((k : ℕ) → Fits w32 (getD h k 0)) → WordsFit h
