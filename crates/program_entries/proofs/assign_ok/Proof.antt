@@ -5,7 +5,7 @@ use Rattle.program_entries.proofs.assign_ok.Tie as tie
 
 returns : tie.Need-returns
 unfolding assign-ok
-returns c = cc
+returns c = rw (c .expressions .ensures, c .before .path-ok .ensures)
 
 pub assign-ok-spec : {M : Type 1} → statement M
 assign-ok-spec = tie.close (tie.spec

@@ -5,7 +5,7 @@ use Rattle.program_entries.proofs.base_ok.Tie as tie
 
 returns : tie.Need-returns
 unfolding base-ok
-returns c = cc
+returns c = rw (c .expression-kind .ensures, c .before .expressions .ensures)
 
 pub base-ok-spec : {M : Type 1} → statement M
 base-ok-spec = tie.close (tie.spec

@@ -5,7 +5,7 @@ use Rattle.program_entries.proofs.code_ok.Tie as tie
 
 returns : tie.Need-returns
 unfolding code-ok
-returns c = cc
+returns c = rw (c .instructions .ensures, c .before .code-first .ensures)
 
 pub code-ok-spec : {M : Type 1} → statement M
 code-ok-spec = tie.close (tie.spec

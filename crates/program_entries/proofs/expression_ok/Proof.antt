@@ -5,7 +5,7 @@ use Rattle.program_entries.proofs.expression_ok.Tie as tie
 
 returns : tie.Need-returns
 unfolding expression-ok
-returns c = cc
+returns c = rw (c .expression-entry-ok .ensures, c .before .expression-at .ensures)
 
 pub expression-ok-spec : {M : Type 1} → statement M
 expression-ok-spec =

@@ -5,7 +5,7 @@ use Rattle.program_entries.proofs.ifeq_ok.Tie as tie
 
 returns : tie.Need-returns
 unfolding ifeq-ok
-returns c = cc
+returns c = rw (c .base-ok3 .ensures, c .before .base-ok2 .ensures, c .before .before .base-ok .ensures)
 
 pub ifeq-ok-spec : {M : Type 1} → statement M
 ifeq-ok-spec = tie.close (tie.spec

@@ -5,7 +5,7 @@ use Rattle.program_entries.proofs.operate_ok.Tie as tie
 
 returns : tie.Need-returns
 unfolding operate-ok
-returns c = cc
+returns c = rw (c .base-ok2 .ensures, c .before .base-ok .ensures)
 
 pub operate-ok-spec : {M : Type 1} → statement M
 operate-ok-spec = tie.close (tie.spec

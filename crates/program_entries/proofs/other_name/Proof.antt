@@ -5,7 +5,7 @@ use Rattle.program_entries.proofs.other_name.Tie as tie
 
 returns : tie.Need-returns
 unfolding other-name
-returns c = cc
+returns c = rw (c .slot-name .ensures, c .before .number .ensures)
 
 pub other-name-spec : {M : Type 1} → statement M
 other-name-spec = tie.close (tie.spec

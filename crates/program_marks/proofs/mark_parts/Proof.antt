@@ -6,23 +6,23 @@ use Rattle.program_marks.proofs.mark_parts.Tie as tie
 
 returns : tie.Need-returns
 unfolding mark-parts
-returns c = cc
+returns c = rw (c .enum-told .given .1)
 
 returns-2 : tie.Need-returns-2
 unfolding mark-parts
-returns-2 c = cc
+returns-2 c = rw (c .enum-told2 .given .1)
 
 returns-3 : tie.Need-returns-3
 unfolding mark-parts
-returns-3 c = cc
+returns-3 c = rw (c .enum-told3 .given .1)
 
 returns-4 : tie.Need-returns-4
 unfolding mark-parts
-returns-4 c = cc
+returns-4 c = rw (c .enum-told4 .given .1)
 
 returns-5 : tie.Need-returns-5
 unfolding mark-parts
-returns-5 c = cc
+returns-5 c = rw (c .enum-told5 .given .1)
 
 returns-6 : tie.Need-returns-6
 returns-6 c = search parts-frame
@@ -35,7 +35,7 @@ returns-8 c = search parts-operate
 
 returns-9 : tie.Need-returns-9
 unfolding mark-parts
-returns-9 c = cc
+returns-9 c = rw (c .enum-told6 .given .1)
 
 pub mark-parts-spec : {M : Type 1} → statement M
 mark-parts-spec =

@@ -5,7 +5,7 @@ use Rattle.program_names.proofs.literal_byte_ok.Tie as tie
 
 returns : tie.Need-returns
 unfolding literal-byte-ok
-returns c = cc
+returns c = rw (c .literal-length .ensures, c .before .string-byte .ensures, c .before .before .literal-byte .ensures)
 
 pub literal-byte-ok-spec : {M : Type 1} → statement M
 literal-byte-ok-spec =

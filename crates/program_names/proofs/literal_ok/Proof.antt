@@ -5,7 +5,7 @@ use Rattle.program_names.proofs.literal_ok.Tie as tie
 
 returns : tie.Need-returns
 unfolding literal-ok
-returns c = cc
+returns c = rw (c .literal-bytes-ok .ensures, c .before .literal-length .ensures)
 
 pub literal-ok-spec : {M : Type 1} → statement M
 literal-ok-spec = tie.close (tie.spec

@@ -5,7 +5,7 @@ use Rattle.program_names.proofs.name_ok.Tie as tie
 
 returns : tie.Need-returns
 unfolding name-ok-by
-returns c = cc
+returns c = rw (c .is-new .ensures, c .before .name-length2 .ensures, c .before .before .name-length .ensures)
 
 pub name-ok-spec : {M : Type 1} → statement M
 name-ok-spec =

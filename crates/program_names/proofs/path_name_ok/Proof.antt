@@ -5,7 +5,7 @@ use Rattle.program_names.proofs.path_name_ok.Tie as tie
 
 returns : tie.Need-returns
 unfolding path-name-ok
-returns c = cc
+returns c = rw (c .names .ensures, c .before .path-name .ensures)
 
 pub path-name-ok-spec : {M : Type 1} → statement M
 path-name-ok-spec = tie.close (tie.spec

@@ -5,7 +5,7 @@ use Rattle.program_names.proofs.texts_ok.Tie as tie
 
 returns : tie.Need-returns
 unfolding texts-ok
-returns c = cc
+returns c = rw (c .path-names-ok .ensures, c .before .literals-ok .ensures, c .before .before .names-ok .ensures)
 
 pub texts-ok-spec : {M : Type 1} → statement M
 texts-ok-spec =

@@ -5,7 +5,7 @@ use Rattle.program_tests.proofs.both_parts_ok.Tie as tie
 
 returns : tie.Need-returns
 unfolding both-parts-ok
-returns c = cc
+returns c = rw (c .part-ok2 .ensures, c .before .part-ok .ensures)
 
 pub both-parts-ok-spec : {M : Type 1} → statement M
 both-parts-ok-spec = tie.close (tie.spec

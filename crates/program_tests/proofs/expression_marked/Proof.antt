@@ -5,7 +5,7 @@ use Rattle.program_tests.proofs.expression_marked.Tie as tie
 
 returns : tie.Need-returns
 unfolding expression-marked-as
-returns c = cc
+returns c = rw (c .parts-marked .ensures, c .before .expression-at .ensures)
 
 pub expression-marked-spec : {M : Type 1} → statement M
 expression-marked-spec = tie.close (tie.spec

@@ -5,7 +5,7 @@ use Rattle.program_tests.proofs.instruction_marked.Tie as tie
 
 returns : tie.Need-returns
 unfolding instruction-marked-as
-returns c = cc
+returns c = rw (c .stands-ok .ensures, c .before .operands-marked .ensures, c .before .before .instruction-at .ensures)
 
 pub instruction-marked-spec : {M : Type 1} → statement M
 instruction-marked-spec =

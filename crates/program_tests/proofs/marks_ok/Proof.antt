@@ -5,7 +5,7 @@ use Rattle.program_tests.proofs.marks_ok.Tie as tie
 
 returns : tie.Need-returns
 unfolding marks-ok
-returns c = cc
+returns c = rw (c .codes-marked .ensures, c .before .instructions-marked .ensures, c .before .before .expressions-marked .ensures)
 
 pub marks-ok-spec : {M : Type 1} → statement M
 marks-ok-spec =

@@ -5,7 +5,7 @@ use Rattle.table_updates.proofs.set_code_first.Tie as tie
 
 returns : tie.Need-returns
 unfolding set-code-first
-returns c = cc
+returns c = rw (c .before .before .set-word .ensures, c .before .before .before .wide .ensures)
 
 pub set-code-first-spec : {M : Type 1} → statement M
 set-code-first-spec =

@@ -5,7 +5,7 @@ use Rattle.table_updates.proofs.set_codes.Tie as tie
 
 returns : tie.Need-returns
 unfolding set-codes
-returns c = cc
+returns c = c .before .before .set-word .ensures
 
 pub set-codes-spec : {M : Type 1} → statement M
 set-codes-spec = tie.close (tie.spec

@@ -5,7 +5,7 @@ use Rattle.table_updates.proofs.set_expressions.Tie as tie
 
 returns : tie.Need-returns
 unfolding set-expressions
-returns c = cc
+returns c = c .before .before .set-word .ensures
 
 pub set-expressions-spec : {M : Type 1} → statement M
 set-expressions-spec = tie.close (tie.spec

@@ -5,7 +5,7 @@ use Rattle.table_updates.proofs.set_frame_limit.Tie as tie
 
 returns : tie.Need-returns
 unfolding set-frame-limit
-returns c = cc
+returns c = c .before .before .set-word .ensures
 
 pub set-frame-limit-spec : {M : Type 1} → statement M
 set-frame-limit-spec = tie.close (tie.spec

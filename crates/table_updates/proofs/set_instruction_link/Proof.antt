@@ -5,7 +5,7 @@ use Rattle.table_updates.proofs.set_instruction_link.Tie as tie
 
 returns : tie.Need-returns
 unfolding set-instruction-link
-returns c = cc
+returns c = rw (c .before .before .set-word .ensures, c .before .before .before .wide .ensures)
 
 pub set-instruction-link-spec : {M : Type 1} → statement M
 set-instruction-link-spec =

@@ -5,7 +5,7 @@ use Rattle.table_updates.proofs.set_instructions.Tie as tie
 
 returns : tie.Need-returns
 unfolding set-instructions
-returns c = cc
+returns c = c .before .before .set-word .ensures
 
 pub set-instructions-spec : {M : Type 1} → statement M
 set-instructions-spec = tie.close (tie.spec

@@ -5,7 +5,7 @@ use Rattle.table_updates.proofs.set_literal_length.Tie as tie
 
 returns : tie.Need-returns
 unfolding set-literal-length
-returns c = cc
+returns c = rw (c .before .before .set-word .ensures, c .before .before .before .wide .ensures)
 
 pub set-literal-length-spec : {M : Type 1} → statement M
 set-literal-length-spec =

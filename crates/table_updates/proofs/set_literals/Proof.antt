@@ -5,7 +5,7 @@ use Rattle.table_updates.proofs.set_literals.Tie as tie
 
 returns : tie.Need-returns
 unfolding set-literals
-returns c = cc
+returns c = c .before .before .set-word .ensures
 
 pub set-literals-spec : {M : Type 1} → statement M
 set-literals-spec = tie.close (tie.spec

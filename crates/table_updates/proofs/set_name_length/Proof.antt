@@ -5,7 +5,7 @@ use Rattle.table_updates.proofs.set_name_length.Tie as tie
 
 returns : tie.Need-returns
 unfolding set-name-length
-returns c = cc
+returns c = rw (c .before .before .set-word .ensures, c .before .before .before .wide .ensures)
 
 pub set-name-length-spec : {M : Type 1} → statement M
 set-name-length-spec =

@@ -5,7 +5,7 @@ use Rattle.table_updates.proofs.set_path_name.Tie as tie
 
 returns : tie.Need-returns
 unfolding set-path-name
-returns c = cc
+returns c = rw (c .before .before .set-word .ensures, c .before .before .before .wide .ensures)
 
 pub set-path-name-spec : {M : Type 1} → statement M
 set-path-name-spec =

@@ -5,7 +5,7 @@ use Rattle.table_updates.proofs.set_program_slots.Tie as tie
 
 returns : tie.Need-returns
 unfolding set-program-slots
-returns c = cc
+returns c = c .before .before .set-word .ensures
 
 pub set-program-slots-spec : {M : Type 1} → statement M
 set-program-slots-spec = tie.close (tie.spec

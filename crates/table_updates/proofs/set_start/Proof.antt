@@ -5,7 +5,7 @@ use Rattle.table_updates.proofs.set_start.Tie as tie
 
 returns : tie.Need-returns
 unfolding set-start
-returns c = cc
+returns c = c .before .before .set-word .ensures
 
 pub set-start-spec : {M : Type 1} → statement M
 set-start-spec = tie.close (tie.spec

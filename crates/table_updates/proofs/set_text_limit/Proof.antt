@@ -5,7 +5,7 @@ use Rattle.table_updates.proofs.set_text_limit.Tie as tie
 
 returns : tie.Need-returns
 unfolding set-text-limit
-returns c = cc
+returns c = c .before .before .set-word .ensures
 
 pub set-text-limit-spec : {M : Type 1} → statement M
 set-text-limit-spec = tie.close (tie.spec

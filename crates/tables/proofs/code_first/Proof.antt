@@ -5,7 +5,7 @@ use Rattle.tables.proofs.code_first.Tie as tie
 
 returns : tie.Need-returns
 unfolding code-first
-returns c = cc
+returns c = rw (c .word .ensures, c .before .wide .ensures)
 
 pub code-first-spec : {M : Type 1} → statement M
 code-first-spec = tie.close (tie.spec

@@ -5,7 +5,7 @@ use Rattle.tables.proofs.codes.Tie as tie
 
 returns : tie.Need-returns
 unfolding codes
-returns c = cc
+returns c = c .word .ensures
 
 pub codes-spec : {M : Type 1} → statement M
 codes-spec = tie.close (tie.spec

@@ -5,7 +5,7 @@ use Rattle.tables.proofs.expression_a.Tie as tie
 
 returns : tie.Need-returns
 unfolding expression-a
-returns c = cc
+returns c = rw (c .word .ensures, c .before .wide .ensures)
 
 pub expression-a-spec : {M : Type 1} → statement M
 expression-a-spec = tie.close (tie.spec

@@ -9,7 +9,13 @@ returns c = search expression-read
 
 returns-2 : tie.Need-returns-2
 unfolding expression-at
-returns-2 c = cc
+returns-2 c =
+    rw (
+      c .expression-of2 .ensures,
+      c .before .expression-b .ensures,
+      c .before .before .expression-a .ensures,
+      c .before .before .before .expression-kind .ensures,
+    )
 
 pub expression-at-spec : {M : Type 1} → statement M
 expression-at-spec =

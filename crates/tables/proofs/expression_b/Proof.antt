@@ -5,7 +5,7 @@ use Rattle.tables.proofs.expression_b.Tie as tie
 
 returns : tie.Need-returns
 unfolding expression-b
-returns c = cc
+returns c = rw (c .word .ensures, c .before .wide .ensures)
 
 pub expression-b-spec : {M : Type 1} → statement M
 expression-b-spec = tie.close (tie.spec

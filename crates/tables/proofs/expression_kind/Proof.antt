@@ -5,7 +5,7 @@ use Rattle.tables.proofs.expression_kind.Tie as tie
 
 returns : tie.Need-returns
 unfolding expression-kind
-returns c = cc
+returns c = rw (c .word .ensures, c .before .wide .ensures)
 
 pub expression-kind-spec : {M : Type 1} → statement M
 expression-kind-spec = tie.close (tie.spec

@@ -5,7 +5,7 @@ use Rattle.tables.proofs.expressions.Tie as tie
 
 returns : tie.Need-returns
 unfolding expressions
-returns c = cc
+returns c = c .word .ensures
 
 pub expressions-spec : {M : Type 1} → statement M
 expressions-spec = tie.close (tie.spec

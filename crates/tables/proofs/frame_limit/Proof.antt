@@ -5,7 +5,7 @@ use Rattle.tables.proofs.frame_limit.Tie as tie
 
 returns : tie.Need-returns
 unfolding frame-limit
-returns c = cc
+returns c = c .word .ensures
 
 pub frame-limit-spec : {M : Type 1} → statement M
 frame-limit-spec = tie.close (tie.spec

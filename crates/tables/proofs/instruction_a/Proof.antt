@@ -5,7 +5,7 @@ use Rattle.tables.proofs.instruction_a.Tie as tie
 
 returns : tie.Need-returns
 unfolding instruction-a
-returns c = cc
+returns c = rw (c .word .ensures, c .before .wide .ensures)
 
 pub instruction-a-spec : {M : Type 1} → statement M
 instruction-a-spec = tie.close (tie.spec

@@ -5,7 +5,7 @@ use Rattle.tables.proofs.instruction_after.Tie as tie
 
 returns : tie.Need-returns
 unfolding instruction-after
-returns c = cc
+returns c = rw (c .link .ensures, c .before .instruction-link .ensures)
 
 pub instruction-after-spec : {M : Type 1} → statement M
 instruction-after-spec = tie.close (tie.spec

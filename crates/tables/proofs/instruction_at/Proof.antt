@@ -9,7 +9,15 @@ returns c = search instruction-read
 
 returns-2 : tie.Need-returns-2
 unfolding instruction-at
-returns-2 c = cc
+returns-2 c =
+    let d = c .before .before .before .before in
+    rw (
+      c .instruction-of2 .ensures,
+      c .before .instruction-c .ensures,
+      c .before .before .instruction-b .ensures,
+      c .before .before .before .instruction-a .ensures,
+      d .instruction-kind .ensures,
+    )
 
 pub instruction-at-spec : {M : Type 1} → statement M
 instruction-at-spec =

@@ -5,7 +5,7 @@ use Rattle.tables.proofs.instruction_b.Tie as tie
 
 returns : tie.Need-returns
 unfolding instruction-b
-returns c = cc
+returns c = rw (c .word .ensures, c .before .wide .ensures)
 
 pub instruction-b-spec : {M : Type 1} → statement M
 instruction-b-spec = tie.close (tie.spec

@@ -5,7 +5,7 @@ use Rattle.tables.proofs.instruction_c.Tie as tie
 
 returns : tie.Need-returns
 unfolding instruction-c
-returns c = cc
+returns c = rw (c .word .ensures, c .before .wide .ensures)
 
 pub instruction-c-spec : {M : Type 1} → statement M
 instruction-c-spec = tie.close (tie.spec

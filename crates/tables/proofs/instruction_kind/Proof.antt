@@ -5,7 +5,7 @@ use Rattle.tables.proofs.instruction_kind.Tie as tie
 
 returns : tie.Need-returns
 unfolding instruction-kind
-returns c = cc
+returns c = rw (c .word .ensures, c .before .wide .ensures)
 
 pub instruction-kind-spec : {M : Type 1} → statement M
 instruction-kind-spec = tie.close (tie.spec

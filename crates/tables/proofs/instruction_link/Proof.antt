@@ -5,7 +5,7 @@ use Rattle.tables.proofs.instruction_link.Tie as tie
 
 returns : tie.Need-returns
 unfolding instruction-link
-returns c = cc
+returns c = rw (c .word .ensures, c .before .wide .ensures)
 
 pub instruction-link-spec : {M : Type 1} → statement M
 instruction-link-spec = tie.close (tie.spec

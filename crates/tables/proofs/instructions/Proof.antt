@@ -5,7 +5,7 @@ use Rattle.tables.proofs.instructions.Tie as tie
 
 returns : tie.Need-returns
 unfolding instructions
-returns c = cc
+returns c = c .word .ensures
 
 pub instructions-spec : {M : Type 1} → statement M
 instructions-spec = tie.close (tie.spec

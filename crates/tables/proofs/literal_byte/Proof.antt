@@ -5,7 +5,7 @@ use Rattle.tables.proofs.literal_byte.Tie as tie
 
 returns : tie.Need-returns
 unfolding literal-byte
-returns c = cc
+returns c = rw (c .byte .ensures, c .before .wide2 .ensures, c .before .before .wide .ensures)
 
 pub literal-byte-spec : {M : Type 1} → statement M
 literal-byte-spec =

@@ -5,7 +5,7 @@ use Rattle.tables.proofs.literal_length.Tie as tie
 
 returns : tie.Need-returns
 unfolding literal-length
-returns c = cc
+returns c = rw (c .word .ensures, c .before .wide .ensures)
 
 pub literal-length-spec : {M : Type 1} → statement M
 literal-length-spec = tie.close (tie.spec

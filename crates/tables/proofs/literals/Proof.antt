@@ -5,7 +5,7 @@ use Rattle.tables.proofs.literals.Tie as tie
 
 returns : tie.Need-returns
 unfolding literals
-returns c = cc
+returns c = c .word .ensures
 
 pub literals-spec : {M : Type 1} → statement M
 literals-spec = tie.close (tie.spec

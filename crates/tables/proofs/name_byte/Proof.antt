@@ -5,7 +5,7 @@ use Rattle.tables.proofs.name_byte.Tie as tie
 
 returns : tie.Need-returns
 unfolding name-byte
-returns c = cc
+returns c = rw (c .word .ensures, c .before .wide2 .ensures, c .before .before .wide .ensures)
 
 pub name-byte-spec : {M : Type 1} → statement M
 name-byte-spec =

@@ -5,7 +5,7 @@ use Rattle.tables.proofs.name_length.Tie as tie
 
 returns : tie.Need-returns
 unfolding name-length
-returns c = cc
+returns c = rw (c .word .ensures, c .before .wide .ensures)
 
 pub name-length-spec : {M : Type 1} → statement M
 name-length-spec = tie.close (tie.spec

@@ -5,7 +5,7 @@ use Rattle.tables.proofs.names.Tie as tie
 
 returns : tie.Need-returns
 unfolding names
-returns c = cc
+returns c = c .word .ensures
 
 pub names-spec : {M : Type 1} → statement M
 names-spec = tie.close (tie.spec

@@ -5,7 +5,7 @@ use Rattle.tables.proofs.path_name.Tie as tie
 
 returns : tie.Need-returns
 unfolding path-name
-returns c = cc
+returns c = rw (c .word .ensures, c .before .wide .ensures)
 
 pub path-name-spec : {M : Type 1} → statement M
 path-name-spec = tie.close (tie.spec

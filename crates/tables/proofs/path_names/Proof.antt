@@ -5,7 +5,7 @@ use Rattle.tables.proofs.path_names.Tie as tie
 
 returns : tie.Need-returns
 unfolding path-names
-returns c = cc
+returns c = c .word .ensures
 
 pub path-names-spec : {M : Type 1} → statement M
 path-names-spec = tie.close (tie.spec

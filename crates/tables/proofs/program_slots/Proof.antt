@@ -5,7 +5,7 @@ use Rattle.tables.proofs.program_slots.Tie as tie
 
 returns : tie.Need-returns
 unfolding program-slots
-returns c = cc
+returns c = c .word .ensures
 
 pub program-slots-spec : {M : Type 1} → statement M
 program-slots-spec = tie.close (tie.spec

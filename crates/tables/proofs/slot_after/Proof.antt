@@ -5,7 +5,7 @@ use Rattle.tables.proofs.slot_after.Tie as tie
 
 returns : tie.Need-returns
 unfolding slot-after
-returns c = cc
+returns c = rw (c .link .ensures, c .before .slot-link .ensures)
 
 pub slot-after-spec : {M : Type 1} → statement M
 slot-after-spec = tie.close (tie.spec

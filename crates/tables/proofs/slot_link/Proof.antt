@@ -5,7 +5,7 @@ use Rattle.tables.proofs.slot_link.Tie as tie
 
 returns : tie.Need-returns
 unfolding slot-link
-returns c = cc
+returns c = rw (c .word .ensures, c .before .wide .ensures)
 
 pub slot-link-spec : {M : Type 1} → statement M
 slot-link-spec = tie.close (tie.spec

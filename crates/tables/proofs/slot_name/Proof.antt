@@ -5,7 +5,7 @@ use Rattle.tables.proofs.slot_name.Tie as tie
 
 returns : tie.Need-returns
 unfolding slot-name
-returns c = cc
+returns c = rw (c .word .ensures, c .before .wide .ensures)
 
 pub slot-name-spec : {M : Type 1} → statement M
 slot-name-spec = tie.close (tie.spec

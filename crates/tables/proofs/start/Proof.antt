@@ -5,7 +5,7 @@ use Rattle.tables.proofs.start.Tie as tie
 
 returns : tie.Need-returns
 unfolding start
-returns c = cc
+returns c = c .word .ensures
 
 pub start-spec : {M : Type 1} → statement M
 start-spec = tie.close (tie.spec

@@ -5,7 +5,7 @@ use Rattle.tables.proofs.text_limit.Tie as tie
 
 returns : tie.Need-returns
 unfolding text-limit
-returns c = cc
+returns c = c .word .ensures
 
 pub text-limit-spec : {M : Type 1} → statement M
 text-limit-spec = tie.close (tie.spec
