@@ -7,13 +7,13 @@ use Rattle.trees.specs.Held.{base-held}
 use Rattle.heap.specs.Words.{self-held, program-held}
 use Rattle.heap.specs.Held.{frames-held}
 use Rattle.state_form.proofs.Facts.{well-formed-sized}
-use Rattle.wellformed.specs.WellFormed.{WellFormed}
+use Rattle.wellformed.specs.WellFormed.{WellFormed, Formed}
 use Rattle.bounded.proofs.UnboundedRuns.{Within, base-within}
 use Rattle.operands.specs.Operands.{operand-value}
 use Rattle.checking.specs.Checking.{Checks}
 use Rattle.checking.proofs.Memories.{well-formed-checks}
 use Rattle.producing.specs.Producing.{Writable}
-use Rattle.commit.specs.Direct.{Formed, CanDo, MakesOrShows, IsMade, IsEnded, Does}
+use Rattle.commit.specs.Direct.{CanDo, MakesOrShows, IsMade, IsEnded, Does}
 
 -- ---- An end is 31 to 35
 

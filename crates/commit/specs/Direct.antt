@@ -10,15 +10,11 @@ use Rattle.tables.specs.Fields.{instructions}
 use Rattle.trees.specs.Held as trees
 use Rattle.heap.specs.Words.{self-held, program-held}
 use Rattle.heap.specs.Held.{heap-held}
-use Rattle.wellformed.specs.WellFormed.{WellFormed}
+use Rattle.wellformed.specs.WellFormed.{Formed}
 use Rattle.bounded.specs.Check.{check}
 use Rattle.commit.specs.Commit.{Commits}
 
--- the memories are well-formed (document 01: whole), as one fact
-unfoldable pub Formed : (p l h t : List ℕ) → Type 0
-Formed p l h t = WellFormed p h l t
-
--- and instruction i is there
+-- the memories are well-formed and instruction i is there
 pub record CanDo (p l h t : List ℕ) (i : ℕ) : Type 0 where
   pub memories : Formed p l h t
   pub there : i < instructions p

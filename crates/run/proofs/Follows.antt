@@ -14,7 +14,7 @@ use Rattle.trees.proofs.Held.{one-level-held}
 use Rattle.heap.specs.Words.{position, end-mark}
 use Rattle.splice.specs.Splice.{splice}
 use Rattle.splice.proofs.Laws.{splice-length, splice-append}
-use Rattle.wellformed.specs.WellFormed.{limits, WellFormed}
+use Rattle.wellformed.specs.WellFormed.{limits, WellFormed, Formed}
 use Rattle.bounded.specs.Bounded.{Bounded, stopped, one-more}
 use Rattle.bounded.specs.Bounded as bounded
 use Rattle.bounded.specs.Theorems.{RunWays}
@@ -23,7 +23,7 @@ use Rattle.word_store.specs.Store.{word-store}
 use Rattle.word_store.specs.State.{state-held, HeaderFormed}
 use Rattle.running.specs.Running.{bounded-held, bounded-run}
 use Rattle.running.proofs.Laws.{bounded-form}
-use Rattle.step_parts.specs.Step.{Formed, CanStep}
+use Rattle.step_parts.specs.Step.{CanStep}
 use Rattle.step_held.specs.StepHeld.{AttemptHeld, ends, lacks-space, makes}
 use Rattle.step_held.proofs.Attempt.{step-held}
 use Rattle.stops.specs.Stops.{stop-of}

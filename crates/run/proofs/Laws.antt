@@ -23,10 +23,10 @@ use Rattle.stops.specs.Stops.{stop-of, stop-here}
 use Rattle.stops.proofs.Laws.{here-marked, here-done, here-fuel}
 use Rattle.splice.specs.Splice.{splice}
 use Rattle.splice.proofs.Laws.{splice-length}
-use Rattle.wellformed.specs.WellFormed.{limits, WellFormed, well-formed}
+use Rattle.wellformed.specs.WellFormed.{limits, WellFormed, well-formed, Formed}
 use Rattle.wellformed.proofs.Decides.{well-formed-decides}
 use Rattle.step_parts.specs.declared.Outcome.{Outcome}
-use Rattle.step_parts.specs.Step.{Formed, CanAttempt, Attempted, Attempts}
+use Rattle.step_parts.specs.Step.{CanAttempt, Attempted, Attempts}
 use Rattle.step_held.specs.StepHeld.{AttemptHeld, ends, lacks-space, makes}
 use Rattle.step_held.proofs.Attempt.{step-held}
 use Rattle.run.specs.Run.{Finished, finished, more-steps, by-outcome, after-attempt, run-from, Running, running, run-call, RunMeans}

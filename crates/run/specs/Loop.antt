@@ -8,11 +8,10 @@ use Rattle.framed.specs.declared.RunReport.{RunReport}
 use Rattle.framed.specs.Answers.{stop-word}
 use Rattle.stops.specs.Stops.{stop-of}
 use Rattle.splice.specs.Splice.{splice}
-use Rattle.wellformed.specs.WellFormed.{limits, WellFormed}
+use Rattle.wellformed.specs.WellFormed.{limits, WellFormed, Formed}
 use Rattle.word_store.specs.State.{HeaderFormed}
 use Rattle.running.specs.Running.{bounded-held, bounded-run}
 use Rattle.step_parts.specs.declared.Outcome.{Outcome}
-use Rattle.step_parts.specs.Step.{Formed}
 use Rattle.run.specs.Run.{Finished, more-steps, run-from}
 
 -- the definition against the bounded machine

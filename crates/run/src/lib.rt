@@ -5,7 +5,7 @@ use framed::RunReport;
 use framed::Stop;
 use step_parts::Outcome;
 ghost use mathlib.Core.Path.{_≡_};
-ghost use Rattle.step_parts.specs.Step.{Formed};
+ghost use Rattle.wellformed.specs.WellFormed.{Formed};
 ghost use Rattle.run.specs.Run.{running, run-call, RunMeans};
 ghost use Rattle.run.specs.Loop.{stop-after, Runs};
 

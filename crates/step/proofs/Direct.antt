@@ -5,18 +5,19 @@ use mathlib.Core.List.{List}
 use Rattle.heap.specs.Words.{set-end-mark}
 use Rattle.allocation.specs.declared.Known.{Known}
 use Rattle.allocation.specs.Known.{Knows}
+use Rattle.wellformed.specs.WellFormed.{Formed}
 use Rattle.commit.specs.Direct as direct
 use Rattle.commit.specs.Direct.{CanDo, MakesNothing, MakesOrShows, IsMade, IsEnded, Does}
 use Rattle.commit.specs.Words.{WordsFit}
 use Rattle.step_parts.specs.declared.Outcome.{Outcome}
-use Rattle.step_parts.specs.Step.{RoomFor, Formed, CanStep, CanAttempt, Attempts}
+use Rattle.step_parts.specs.Step.{RoomFor, CanStep, CanAttempt, Attempts}
 use Rattle.step_parts.proofs.Reserve.{nothing-reserved}
 use Rattle.step_parts.proofs.Ends.{can-reserve}
 use Rattle.step_parts.proofs.Room.{ended-quietly, ended-then-knows, made-quietly, made-then-knows}
 
 module _ (p l h t : List ℕ) (i : ℕ) (can : CanStep p l h t i) where
   pub can-do : CanDo p l h t i
-  unfolding Formed direct.Formed
+  unfolding Formed
   can-do = record { memories = can .memories; there = can .there }
 
   -- nothing is counted in

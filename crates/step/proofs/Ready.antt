@@ -9,7 +9,7 @@ use lib.ListN.{length}
 use Rattle.framed.specs.Answers.{Stopped}
 use Rattle.trees.specs.Held.{remaining}
 use Rattle.heap.specs.Words.{position, end-mark, set-end-mark}
-use Rattle.wellformed.specs.WellFormed.{WellFormed}
+use Rattle.wellformed.specs.WellFormed.{WellFormed, Formed}
 use Rattle.allocation.specs.Known.{Knows}
 use Rattle.bounded.specs.Bounded.{Bounded, with-mark, stopped}
 use Rattle.word_store.specs.Store.{Memories, word-store}
@@ -23,7 +23,7 @@ use Rattle.commit.specs.Words.{WordsFit}
 use Rattle.checking.specs.Checking.{AssignsOrShows}
 use Rattle.direct.proofs.Making.{left-form}
 use Rattle.step_parts.specs.declared.Outcome.{Outcome}
-use Rattle.step_parts.specs.Step.{frames-for, texts-for, ready-words, RoomFor, Formed, CanStep, step-end-held, line-held, attempt-step, CanAttempt, Attempts, AttemptsQuietly, ready-state, machine-run}
+use Rattle.step_parts.specs.Step.{frames-for, texts-for, ready-words, RoomFor, CanStep, step-end-held, line-held, attempt-step, CanAttempt, Attempts, AttemptsQuietly, ready-state, machine-run}
 use Rattle.step_parts.proofs.Ends.{formed-now, ready-formed, end-of-reserve, end-of-check}
 use Rattle.step_parts.proofs.Runs.{ready-is, run-ended, run-no-space, run-made}
 use Rattle.step_parts.proofs.Known.{ended-knows}

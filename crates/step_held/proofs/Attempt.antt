@@ -16,7 +16,7 @@ use Rattle.trees.specs.Held.{program-held, remaining, instruction-held}
 use Rattle.heap.specs.Words.{end-mark, set-end-mark}
 use Rattle.heap.specs.Closed.{ValueFits}
 use Rattle.state_form.proofs.Facts.{well-formed-closed}
-use Rattle.wellformed.specs.WellFormed.{limits, WellFormed}
+use Rattle.wellformed.specs.WellFormed.{limits, WellFormed, Formed}
 use Rattle.bounded.specs.Bounded.{Bounded, with-mark, stopped, one-more}
 use Rattle.bounded.specs.Bounded as bounded
 use Rattle.bounded.specs.Relation as relation
@@ -36,7 +36,7 @@ use Rattle.running.specs.Running.{bounded-held, bounded-run, BoundedForm}
 use Rattle.running.specs.Cleared.{Cleared}
 use Rattle.running.proofs.Laws.{bounded-form}
 use Rattle.running.proofs.Cleared.{cleared-through}
-use Rattle.step_parts.specs.Step.{frames-for, texts-for, Formed, CanStep, ready-words, step-end-held, line-held, committed, committed-heap, committed-text, attempt-step, ready-state, machine-run}
+use Rattle.step_parts.specs.Step.{frames-for, texts-for, CanStep, ready-words, step-end-held, line-held, committed, committed-heap, committed-text, attempt-step, ready-state, machine-run}
 use Rattle.step_parts.proofs.Runs.{ready-is, run-ended, run-no-space, run-made, run-zero}
 use Rattle.step_held.specs.StepHeld.{EndHeld, SpaceHeld, MadeHeld, AttemptHeld, ends, lacks-space, makes, StepHeld}
 use Rattle.step_held.proofs.Position.{position-remains, position-small}

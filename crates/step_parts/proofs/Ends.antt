@@ -17,7 +17,7 @@ use Rattle.state_form.specs.Form.{StateWellFormed}
 use Rattle.state_form.proofs.Facts.{well-formed-closed}
 use Rattle.collector.specs.Collect.{collect-heap}
 use Rattle.collector.proofs.Kept.{collect-well-formed}
-use Rattle.wellformed.specs.WellFormed.{limits, WellFormed}
+use Rattle.wellformed.specs.WellFormed.{limits, WellFormed, Formed}
 use Rattle.bounded.specs.Check.{check}
 use Rattle.bounded.specs.Bounded.{Bounded, heap-in, reserved, reserve, ready, step-end}
 use Rattle.word_store.specs.Store.{Memories, word-store}
@@ -28,7 +28,7 @@ use Rattle.checking.proofs.Memories.{instruction-checks}
 use Rattle.reserving.specs.Reserving.{room-end-held, reserved-words, Reserves}
 use Rattle.reserving.proofs.Meaning.{reserve-ready, reserve-end}
 use Rattle.commit.specs.Commit.{state-of}
-use Rattle.step_parts.specs.Step.{frames-for, texts-for, CanReserve, ready-words, Formed, CanStep, step-end-held}
+use Rattle.step_parts.specs.Step.{frames-for, texts-for, CanReserve, ready-words, CanStep, step-end-held}
 
 -- ---- The bounded machine's step, by what reserve gives
 

@@ -16,7 +16,7 @@ use Rattle.places.specs.Places.{AtInstruction}
 use Rattle.texts.specs.Texts.{Readable}
 use Rattle.splice.specs.Splice.{splice}
 use Rattle.program_form.specs.WellFormed as program
-use Rattle.wellformed.specs.WellFormed.{limits, WellFormed}
+use Rattle.wellformed.specs.WellFormed.{limits, WellFormed, Formed}
 use Rattle.bounded.specs.Bounded.{Bounded, ready, step-end, line, commit, Ran, run}
 use Rattle.word_store.specs.Store.{Memories, word-store}
 use Rattle.word_store.specs.State.{HeaderFormed}
@@ -54,11 +54,7 @@ pub record RoomFor (p h : List ℕ) (i : ℕ) (k : Known) : Type 0 where
 
 -- ---- The end
 
--- the memories are well-formed (document 01: whole), as one fact
-unfoldable pub Formed : (p l h t : List ℕ) → Type 0
-Formed p l h t = WellFormed p h l t
-
--- and instruction i is the next, with no end mark
+-- the memories are well-formed and instruction i is the next, with no end mark
 pub record CanStep (p l h t : List ℕ) (i : ℕ) : Type 0 where
   pub memories : Formed p l h t
   pub there : i < instructions p

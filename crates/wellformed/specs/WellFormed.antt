@@ -30,6 +30,10 @@ pub record WellFormed (p h l t : List ℕ) : Type 0 where
   pub program : program.WellFormed p l
   pub state : StateWellFormed h t (limits p)
 
+-- as one fact, in the order in which a step takes the memories
+unfoldable pub Formed : (p l h t : List ℕ) → Type 0
+Formed p l h t = WellFormed p h l t
+
 -- the test that the code makes
 unfoldable pub well-formed : List ℕ → List ℕ → List ℕ → List ℕ → Bool
 well-formed p h l t = program-well-formed p l && state-well-formed h t (limits p)
