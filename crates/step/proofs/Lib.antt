@@ -1,3 +1,5 @@
+pub mod Making
+pub mod Does
 pub mod Ready
-pub mod Direct
+pub mod OneGo
 pub mod Join

@@ -21,7 +21,7 @@ use Rattle.commit.specs.Commit.{state-of}
 use Rattle.commit.specs.Direct.{MakesOrShows, end-met}
 use Rattle.commit.specs.Words.{WordsFit}
 use Rattle.checking.specs.Checking.{AssignsOrShows}
-use Rattle.direct.proofs.Making.{left-form}
+use Rattle.step.proofs.Making.{left-form}
 use Rattle.step_parts.specs.declared.Outcome.{Outcome}
 use Rattle.step_parts.specs.Step.{frames-for, texts-for, ready-words, RoomFor, CanStep, step-end-held, line-held, attempt-step, CanAttempt, Attempts, AttemptsQuietly, ready-state, machine-run}
 use Rattle.step_parts.proofs.Ends.{formed-now, ready-formed, end-of-reserve, end-of-check}

@@ -2,12 +2,32 @@
 use allocation::Known;
 use step_parts::Outcome;
 use step_parts::Tried;
+use tables::InstructionEntry;
 ghost use mathlib.Core.Path.{_≡_};
 ghost use mathlib.Core.Bool.{true};
 ghost use Rattle.step_parts.specs.Step.{RoomFor, CanStep, CanAttempt, Attempts, AttemptsQuietly};
 ghost use Rattle.allocation.specs.Known.{Knows};
-ghost use Rattle.commit.specs.Direct.{MakesOrShows};
+ghost use Rattle.commit.specs.Direct.{CanDo, MakesOrShows, Does};
 ghost use Rattle.step_join.specs.Join.{joins-entry};
+
+// Instruction i, where it makes nothing and shows nothing, in one go: 0 it is made, 31 to 35 the end that it meets. Else it is left, 255.
+fn direct<'a>(p: &[u32], l: &'a [u8], h: &mut [u32], t: &'a [u8], i: u32) -> u32
+    requires { ⌜ CanDo (now p) (now l) (now h) (now t) i ⌝ }
+    ensures { λ r. ⌜ Does (now (p .entry)) (now (l .entry)) (now (h .entry)) (now (t .entry)) i r (now (h .exit)) ⌝ }
+{
+    let kind = tables::instruction_kind(p, i);
+    if kind < 2 {
+        return step_assign::assign(p, l, h, t, i, kind == 0);
+    }
+    match tables::instruction_at(p, i) {
+        InstructionEntry::AssignSelf(_, _, _) => 255,
+        InstructionEntry::AssignProgram(_, _, _) => 255,
+        InstructionEntry::Show(_) => 255,
+        InstructionEntry::Jump(a, c) => step_jump::jump(p, l, h, a, c),
+        InstructionEntry::Ifeq(a, c, d) => step_jump::branch(p, l, h, t, i, a, c, d),
+        InstructionEntry::Bad => 255,
+    }
+}
 
 // The step on an instruction that assigns a join, after reserve, in one go. The end that it meets is marked; it has no line.
 fn joined(p: &[u32], l: &[u8], h: &mut [u32], t: &mut [u8], i: u32, k: Known) -> Tried
@@ -80,7 +100,7 @@ pub fn attempt(
     ensures exact { λ r. ⌜ Attempts (now (p .entry)) (now (l .entry)) (now (h .entry)) (now (t .entry)) i (now (out .entry)) used (r .outcome) (now (h .exit)) (now (t .exit)) (now (out .exit)) ⌝ }
     ensures knows { λ r. ⌜ Knows (now (h .exit)) 0 0 (r .known) ⌝ }
 {
-    let d = direct::direct(p, l, h, t, i);
+    let d = direct(p, l, h, t, i);
     if d == 0 {
         return Tried {
             outcome: Outcome::Made(0),

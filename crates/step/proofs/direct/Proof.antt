@@ -1,97 +1,97 @@
 use Rattle.step_jump.proofs.Does.{can-jump, jump-does}
-use Rattle.direct.proofs.Does.{at-assignment, at-ifeq, self-left, program-left, show-left, bad-left}
+use Rattle.step.proofs.Does.{at-assignment, at-ifeq, self-left, program-left, show-left, bad-left}
 use borrow.Author.Needs.{needs}
-use Rattle.direct.proofs.direct.Statement.{statement}
-use Rattle.direct.proofs.direct.Tie as tie
-use Rattle.direct.proofs.direct.Reads as reads
-use Rattle.direct.proofs.direct.Lts as lts
+use Rattle.step.proofs.direct.Statement.{statement}
+use Rattle.step.proofs.direct.Tie as tie
+use Rattle.step.proofs.direct.Reads as reads
+use Rattle.step.proofs.direct.Lts as lts
 use Rattle.step_assign.proofs.assign.Reads as assign-reads
 use Rattle.step_jump.proofs.branch.Reads as branch-reads
 use Rattle.step_jump.proofs.jump.Reads as jump-reads
 use Rattle.tables.proofs.instruction_at.Reads as instruction-at-reads
 use Rattle.tables.proofs.instruction_kind.Reads as instruction-kind-reads
 
--- src/lib.rt:11:9
+-- src/lib.rt:18:9
 instruction-kind-requires : tie.Need-instruction-kind-requires
 instruction-kind-requires c κs = search needs
 
--- src/lib.rt:13:9
+-- src/lib.rt:20:9
 assign-requires : tie.Need-assign-requires
 assign-requires c κs = search at-assignment
 
--- src/lib.rt:13:9
+-- src/lib.rt:20:9
 same-length : tie.Need-same-length
 same-length c = search needs
 
--- src/lib.rt:13:9
+-- src/lib.rt:20:9
 returns : tie.Need-returns
 returns c = search needs
 
--- src/lib.rt:15:11
+-- src/lib.rt:22:11
 instruction-at-requires : tie.Need-instruction-at-requires
 instruction-at-requires c κs = search needs
 
--- src/lib.rt:16:50
+-- src/lib.rt:23:50
 enum-told : tie.Need-enum-told
 enum-told c = search needs
 
--- src/lib.rt:17:53
+-- src/lib.rt:24:53
 enum-told-2 : tie.Need-enum-told-2
 enum-told-2 c = search needs
 
--- src/lib.rt:18:38
+-- src/lib.rt:25:38
 enum-told-3 : tie.Need-enum-told-3
 enum-told-3 c = search needs
 
--- src/lib.rt:19:32
+-- src/lib.rt:26:32
 enum-known-a : tie.Need-enum-known-a
 enum-known-a c = search needs
 
--- src/lib.rt:19:41
+-- src/lib.rt:26:41
 jump-requires : tie.Need-jump-requires
 jump-requires c κs = search can-jump
 
--- src/lib.rt:20:32
+-- src/lib.rt:27:32
 enum-known-a-2 : tie.Need-enum-known-a-2
 enum-known-a-2 c = search needs
 
--- src/lib.rt:20:44
+-- src/lib.rt:27:44
 branch-requires : tie.Need-branch-requires
 branch-requires c κs = search at-ifeq
 
--- src/lib.rt:21:34
+-- src/lib.rt:28:34
 enum-told-4 : tie.Need-enum-told-4
 enum-told-4 c = search needs
 
--- src/lib.rt:7:1
+-- src/lib.rt:14:1
 returns-2 : tie.Need-returns-2
 returns-2 c = search self-left
 
--- src/lib.rt:7:1
+-- src/lib.rt:14:1
 returns-3 : tie.Need-returns-3
 returns-3 c = search program-left
 
--- src/lib.rt:7:1
+-- src/lib.rt:14:1
 returns-4 : tie.Need-returns-4
 returns-4 c = search show-left
 
--- src/lib.rt:7:1
+-- src/lib.rt:14:1
 same-length-2 : tie.Need-same-length-2
 same-length-2 c = search needs
 
--- src/lib.rt:7:1
+-- src/lib.rt:14:1
 returns-5 : tie.Need-returns-5
 returns-5 c = search jump-does
 
--- src/lib.rt:7:1
+-- src/lib.rt:14:1
 same-length-3 : tie.Need-same-length-3
 same-length-3 c = search needs
 
--- src/lib.rt:7:1
+-- src/lib.rt:14:1
 returns-6 : tie.Need-returns-6
 returns-6 c = search needs
 
--- src/lib.rt:7:1
+-- src/lib.rt:14:1
 returns-7 : tie.Need-returns-7
 returns-7 c = search bad-left
 
