@@ -13,17 +13,22 @@ use Rattle.start_state.proofs.start.Reads as start-reads
 emit-requires : tie.Need-emit-requires
 emit-requires c κs = (search needs, (search needs, (search needs, (search needs, search install-can-emit))))
 
--- src/lib.rt:33:5
+-- src/lib.rt:44:5
 clear-words-requires : tie.Need-clear-words-requires
 clear-words-requires c κs = search needs
 
--- src/lib.rt:34:5
+-- src/lib.rt:45:5
 clear-bytes-requires : tie.Need-clear-bytes-requires
 clear-bytes-requires c κs = search needs
 
--- src/lib.rt:35:5
+-- src/lib.rt:46:5
 start-requires : tie.Need-start-requires
-start-requires c κs = search install-can-start
+start-requires c κs =
+    let texts = c .before .before .before .before .before .before in
+    let words = texts .before .before .before .before in
+    let program = words .before .before .before .before .before .before in
+    let begin = program .before .before .before .before .before .before .before .before .before .before .before in
+    install-can-start _ _ _ _ _ _ _ (begin .pre .1 .1) _ _ _ _ (program .emit .ensures) (words .clear-words .ensures) (texts .clear-bytes .ensures)
 
 -- src/lib.rt:9:1
 same-length : tie.Need-same-length
