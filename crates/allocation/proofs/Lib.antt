@@ -1,3 +1,3 @@
 pub mod Laws
 pub mod Views
-pub mod Claims
+pub mod Rewritten

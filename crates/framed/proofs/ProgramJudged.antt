@@ -60,10 +60,6 @@ operation-grows {h} o-equal = stays h
 operation-grows {h} o-and = stays h
 operation-grows {h} o-or = stays h
 
-new-grows : (h : Heap) → Grows h (with-frame h)
-unfolding with-frame
-new-grows h = record { more = new-frame [] ∷ []; frames-are = refl }
-
 -- the frames after a frame expression whose slots were filled: the new one stands behind those before
 frames-after : (h h₀ : Heap) (f : List Slot) (more : List Frame) → h₀ .frames ≡ with-frame h .frames ++ more →
     with-frames (set (h₀ .frames) (length (h .frames)) (new-frame f)) h₀ .frames ≡ h .frames ++ new-frame f ∷ more

@@ -1,4 +1,4 @@
--- What the words hold after each updater: one law for the header, one for the frames and one for the made texts of each. A simulation speaks of these alone.
+-- What the words hold after an updater: the frames, the made texts and the header.
 -- Assumes nothing.
 use Prim.Native.Nat.{ℕ, suc, _+_, _-_, _*_, _≤_, _<_}
 use mathlib.Core.Path.{_≡_, refl, _∙_, ap, ap₂, sym}
@@ -10,7 +10,6 @@ use native.Mathlib.Omega.{arith}
 use native.Mathlib.Decide.{ℕ-discrete, decLt}
 use native.Mathlib.Numerals.{add-one}
 use lib.ListN.{length, getD, set, getElem?}
-use lib.Seq.{set-getD}
 use borrow.Author.Tests.{ne-eqb}
 use Rattle.framed.specs.declared.Value.{Value}
 use Rattle.framed.specs.Values.{Slot, Frame, new-frame}
@@ -18,17 +17,17 @@ use Rattle.framed.specs.Common.{has-twice}
 use Rattle.framed.specs.Reach.{slot-value, values-in}
 use Rattle.heap.specs.Closed.{Sized, ValueFits, FrameInUse, TextInUse}
 use Rattle.heap.specs.Words.{self-held, program-held, position, end-mark, frame-used, slot-count-at, slot-name-at, slot-value-at, text-word, text-used, text-length, text-byte}
-use Rattle.heap.specs.Words.{set-self, set-program, set-position, set-end-mark, set-slot-value, add-slot-at, add-slot, take-frame, free-frame, take-text, free-text, set-text-byte}
+use Rattle.heap.specs.Words.{set-end-mark, set-slot-value, add-slot-at, add-slot, take-frame, take-text, set-text-byte}
 use Rattle.heap.specs.Lists.{listed}
-use Rattle.heap.specs.Held.{slot-held, slots-held, frame-held, text-held, frames-held, texts-held, heap-held, frames-in-use, texts-in-use}
+use Rattle.heap.specs.Held.{slot-held, slots-held, frame-held, text-held, frames-held, texts-held, frames-in-use, texts-in-use}
 use Rattle.heap.proofs.Lists.{listed-length, listed-at, listed-past, listed-same, listed-set, listed-has, listed-from, elem-at, passing-same, passing-more, passing-means, passing-has, passing-once, _∈_}
 use Rattle.heap.proofs.Laws.{Local, Same, local-same, same-part, same-self, same-program, same-position, same-end-mark}
-use Rattle.heap.proofs.Laws.{same-frame-used, same-count, same-name, same-value, same-text-word, same-text-used, same-text-length, text-word-free}
-use Rattle.heap.proofs.Laws.{set-self-local, set-self-self, set-program-local, set-program-program, set-position-local, set-position-position, set-end-local, set-end-end}
+use Rattle.heap.proofs.Laws.{same-frame-used, same-count, same-name, same-value, same-text-word, same-text-used, same-text-length}
+use Rattle.heap.proofs.Laws.{set-end-local}
 use Rattle.heap.proofs.Laws.{set-slot-local, set-slot-is, set-slot-count, set-slot-name, set-slot-other}
 use Rattle.heap.proofs.Laws.{add-slot-is, add-slot-local, add-slot-count, add-slot-name, add-slot-value, add-slot-old-name, add-slot-old-value}
-use Rattle.heap.proofs.Laws.{take-frame-local, take-frame-used, take-frame-count, free-frame-local, free-frame-used}
-use Rattle.heap.proofs.Laws.{take-text-local, take-text-word, free-text-local, free-text-word, set-byte-other}
+use Rattle.heap.proofs.Laws.{take-frame-local, take-frame-used, take-frame-count}
+use Rattle.heap.proofs.Laws.{take-text-local, take-text-word, set-byte-other}
 
 -- ---- Reading
 
@@ -65,14 +64,6 @@ module _ (h : List ℕ) where
   unfolding slots-held slot-held
   slot-at f i d lt = listed-at (slot-held h f) (slot-count-at h f) i d lt
 
-  pub bytes-length : (t : List ℕ) (k : ℕ) → length (text-held h t k) ≡ text-length h k
-  unfolding text-held
-  bytes-length t k = listed-length (text-byte t k) (text-length h k)
-
-  pub byte-at : (t : List ℕ) (k i : ℕ) → i < text-length h k → getD (text-held h t k) i 0 ≡ text-byte t k i
-  unfolding text-held
-  byte-at t k i lt = listed-at (text-byte t k) (text-length h k) i 0 lt
-
   -- the numbers in use
   pub frame-counted : (f : ℕ) → (f ∈ frames-in-use h) ↔ FrameInUse h f
   unfolding frames-in-use
@@ -97,14 +88,6 @@ module _ (h : List ℕ) where
   texts-once = passing-once (text-used h) 256
 
   module _ (t : List ℕ) where
-    pub heap-frames : heap-held h t .frames ≡ frames-held h
-    unfolding heap-held
-    heap-frames = refl
-
-    pub heap-texts : heap-held h t .texts ≡ texts-held h t
-    unfolding heap-held
-    heap-texts = refl
-
     pub texts-length : length (texts-held h t) ≡ 256
     unfolding texts-held
     texts-length = listed-length (text-held h t) 256
@@ -244,84 +227,12 @@ module _ {h h′ : List ℕ} where
 
 -- ---- The header's updaters
 
-module _ (h : List ℕ) (s : Sized h) where
-  module _ (v : Value) where
-    pub set-self-header : ValueFits v → HeaderIs (set-self h v) v (program-held h) (position h) (end-mark h)
-    set-self-header f =
-        let l = set-self-local h (s .size) v in
-        record {
-          self-is = set-self-self h (s .size) v f;
-          program-is = same-program (local-same l 2 4 (λ k lo hi lo′ hi′. omega arith));
-          position-is = same-position (local-same l 4 5 (λ k lo hi lo′ hi′. omega arith));
-          end-mark-is = same-end-mark (local-same l 5 6 (λ k lo hi lo′ hi′. omega arith));
-        }
+module _ (h : List ℕ) (s : Sized h) (p : ℕ) where
+  pub set-end-frames : SameFrames h (set-end-mark h p)
+  set-end-frames = low-frames (set-end-local h (s .size) p) s (omega arith)
 
-    pub set-self-frames : SameFrames h (set-self h v)
-    set-self-frames = low-frames (set-self-local h (s .size) v) s (omega arith)
-
-    pub set-self-texts : SameTexts h (set-self h v)
-    set-self-texts = low-texts (set-self-local h (s .size) v) (omega arith)
-
-    pub set-self-sized : Sized (set-self h v)
-    set-self-sized = low-sized (set-self-local h (s .size) v) s (omega arith)
-
-    pub set-program-header : ValueFits v → HeaderIs (set-program h v) (self-held h) v (position h) (end-mark h)
-    set-program-header f =
-        let l = set-program-local h (s .size) v in
-        record {
-          self-is = same-self (local-same l 0 2 (λ k lo hi lo′ hi′. omega arith));
-          program-is = set-program-program h (s .size) v f;
-          position-is = same-position (local-same l 4 5 (λ k lo hi lo′ hi′. omega arith));
-          end-mark-is = same-end-mark (local-same l 5 6 (λ k lo hi lo′ hi′. omega arith));
-        }
-
-    pub set-program-frames : SameFrames h (set-program h v)
-    set-program-frames = low-frames (set-program-local h (s .size) v) s (omega arith)
-
-    pub set-program-texts : SameTexts h (set-program h v)
-    set-program-texts = low-texts (set-program-local h (s .size) v) (omega arith)
-
-    pub set-program-sized : Sized (set-program h v)
-    set-program-sized = low-sized (set-program-local h (s .size) v) s (omega arith)
-
-  module _ (p : ℕ) where
-    pub set-position-header : HeaderIs (set-position h p) (self-held h) (program-held h) p (end-mark h)
-    set-position-header =
-        let l = set-position-local h (s .size) p in
-        record {
-          self-is = same-self (local-same l 0 2 (λ k lo hi lo′ hi′. omega arith));
-          program-is = same-program (local-same l 2 4 (λ k lo hi lo′ hi′. omega arith));
-          position-is = set-position-position h (s .size) p;
-          end-mark-is = same-end-mark (local-same l 5 6 (λ k lo hi lo′ hi′. omega arith));
-        }
-
-    pub set-position-frames : SameFrames h (set-position h p)
-    set-position-frames = low-frames (set-position-local h (s .size) p) s (omega arith)
-
-    pub set-position-texts : SameTexts h (set-position h p)
-    set-position-texts = low-texts (set-position-local h (s .size) p) (omega arith)
-
-    pub set-position-sized : Sized (set-position h p)
-    set-position-sized = low-sized (set-position-local h (s .size) p) s (omega arith)
-
-    pub set-end-header : HeaderIs (set-end-mark h p) (self-held h) (program-held h) (position h) p
-    set-end-header =
-        let l = set-end-local h (s .size) p in
-        record {
-          self-is = same-self (local-same l 0 2 (λ k lo hi lo′ hi′. omega arith));
-          program-is = same-program (local-same l 2 4 (λ k lo hi lo′ hi′. omega arith));
-          position-is = same-position (local-same l 4 5 (λ k lo hi lo′ hi′. omega arith));
-          end-mark-is = set-end-end h (s .size) p;
-        }
-
-    pub set-end-frames : SameFrames h (set-end-mark h p)
-    set-end-frames = low-frames (set-end-local h (s .size) p) s (omega arith)
-
-    pub set-end-texts : SameTexts h (set-end-mark h p)
-    set-end-texts = low-texts (set-end-local h (s .size) p) (omega arith)
-
-    pub set-end-sized : Sized (set-end-mark h p)
-    set-end-sized = low-sized (set-end-local h (s .size) p) s (omega arith)
+  pub set-end-texts : SameTexts h (set-end-mark h p)
+  set-end-texts = low-texts (set-end-local h (s .size) p) (omega arith)
 
 -- ---- The updaters of frames
 
@@ -403,9 +314,6 @@ module _ (h : List ℕ) (s : Sized h) (f : ℕ) (hf : f < 256) (u : frame-used h
     pub set-slot-header : SameHeader h (set-slot-value h f i v)
     set-slot-header = kept-header h _ s f hf (widen f set-slot-within)
 
-    pub set-slot-sized : Sized (set-slot-value h f i v)
-    set-slot-sized = frame-sized h _ s f hf (widen f set-slot-within) (λ q. let m = few in rw (set-slot-count h f i v (s .size) hf (omega arith)) m)
-
   -- add_slot
   module _ (x : ℕ) (v : Value) (room : slot-count-at h f < 16) where
     abbrev added : List ℕ
@@ -463,13 +371,6 @@ module _ (h : List ℕ) (s : Sized h) (f : ℕ) (hf : f < 256) where
   take-frame-frames =
       frames-with h _ s f hf take-within (new-frame []) (frame-of-used _ f (take-frame-used h f (s .size) hf) ∙ ap new-frame take-frame-slots)
 
-  -- a frame that was free held no slots before, either
-  pub take-frame-same : frame-used h f ≡ false → frames-held (take-frame h f) ≡ frames-held h
-  take-frame-same e =
-      take-frame-frames
-      ∙ ap (λ (x : Frame). set (frames-held h) f x) (sym (frame-at h f (new-frame []) hf ∙ frame-of-free h f e))
-      ∙ set-getD (frames-held h) f (new-frame [])
-
   pub take-frame-others : (g : ℕ) → g ≢ f → frame-used (take-frame h f) g ≡ frame-used h g
   take-frame-others = others-used h _ s f hf take-within
 
@@ -480,37 +381,8 @@ module _ (h : List ℕ) (s : Sized h) (f : ℕ) (hf : f < 256) where
   pub take-frame-texts : SameTexts h (take-frame h f)
   take-frame-texts = kept-texts h _ s f hf take-within
 
-  pub take-frame-header : SameHeader h (take-frame h f)
-  take-frame-header = kept-header h _ s f hf take-within
-
   pub take-frame-sized : Sized (take-frame h f)
   take-frame-sized = frame-sized h _ s f hf take-within (λ q. rw (take-frame-count h f (s .size) hf) (omega arith))
-
-  free-within : Local (128 + 51 * f) (179 + 51 * f) h (free-frame h f)
-  free-within =
-      let l = free-frame-local h f (s .size) hf in
-      record { size = l .size; away = λ k n. l .away k (λ lo hi. n lo (omega arith)) }
-
-  pub free-frame-frames : frames-held (free-frame h f) ≡ set (frames-held h) f (new-frame [])
-  free-frame-frames = frames-with h _ s f hf free-within (new-frame []) (frame-of-free _ f (free-frame-used h f (s .size) hf))
-
-  pub free-frame-others : (g : ℕ) → g ≢ f → frame-used (free-frame h f) g ≡ frame-used h g
-  free-frame-others = others-used h _ s f hf free-within
-
-  pub free-frame-count-one : frame-used h f ≡ true → length (frames-in-use h) ≡ suc (length (frames-in-use (free-frame h f)))
-  unfolding frames-in-use
-  free-frame-count-one e = passing-more (frame-used (free-frame h f)) (frame-used h) 256 f hf (free-frame-used h f (s .size) hf) e (λ g lt ne. sym (free-frame-others g ne))
-
-  pub free-frame-texts : SameTexts h (free-frame h f)
-  free-frame-texts = kept-texts h _ s f hf free-within
-
-  pub free-frame-header : SameHeader h (free-frame h f)
-  free-frame-header = kept-header h _ s f hf free-within
-
-  pub free-frame-sized : Sized (free-frame h f)
-  free-frame-sized =
-      frame-sized h _ s f hf free-within
-      (λ q. let z : true ≡ false = sym q ∙ free-frame-used h f (s .size) hf in let y : _≡_ {A = ℕ} 0 1 = cc in absurd (omega arith))
 
 -- ---- The updaters of made texts
 
@@ -570,33 +442,8 @@ module _ (h : List ℕ) (s : Sized h) (k : ℕ) (hk : k < 256) where
     pub take-text-frames : SameFrames h (take-text h k n)
     take-text-frames = high-frames take-text-within s (omega arith)
 
-    pub take-text-header : SameHeader h (take-text h k n)
-    take-text-header = high-header take-text-within (omega arith)
-
     pub take-text-sized : Sized (take-text h k n)
     take-text-sized = text-sized h _ s k hk take-text-within (rw (take-text-word h k (s .size) hk n hn) (omega arith))
-
-  free-text-within : Local (13184 + k) (13185 + k) h (free-text h k)
-  free-text-within = free-text-local h k (s .size) hk
-
-  pub free-text-texts : (t : List ℕ) → texts-held (free-text h k) t ≡ set (texts-held h t) k []
-  unfolding listed
-  free-text-texts t = texts-with h _ s k hk free-text-within t [] (held-word _ t k 0 0 (free-text-word h k (s .size) hk) refl)
-
-  pub free-text-used : text-used (free-text h k) k ≡ false
-  free-text-used = text-word-free _ k (free-text-word h k (s .size) hk)
-
-  pub free-text-others : (j : ℕ) → j ≢ k → text-used (free-text h k) j ≡ text-used h j
-  free-text-others = others-texts h _ s k hk free-text-within
-
-  pub free-text-frames : SameFrames h (free-text h k)
-  free-text-frames = high-frames free-text-within s (omega arith)
-
-  pub free-text-header : SameHeader h (free-text h k)
-  free-text-header = high-header free-text-within (omega arith)
-
-  pub free-text-sized : Sized (free-text h k)
-  free-text-sized = text-sized h _ s k hk free-text-within (rw (free-text-word h k (s .size) hk) (omega arith))
 
 -- a byte of a text past its length changes nothing of what is held
 module _ (h t : List ℕ) (s : Sized h) (k i b : ℕ) (hk : k < 256) (hi : i < 64) where

@@ -22,7 +22,7 @@ use Rattle.framed.specs.declared.Value.{Value}
 use Rattle.heap.specs.Closed.{ValueFits}
 use Rattle.heap.specs.Words.{value-of, tag-of, number-of, self-held, program-held, position, end-mark}
 use Rattle.heap.specs.Words.{frame-word, frame-used, slot-count-at, slot-name-at, slot-tag-at, slot-number-at, slot-value-at, text-word, text-used, text-length, text-byte}
-use Rattle.heap.specs.Words.{set-self, set-program, set-position, set-end-mark, set-slot-value, add-slot-at, add-slot, take-frame, free-frame, take-text, free-text, set-text-byte}
+use Rattle.heap.specs.Words.{set-self, set-program, set-position, set-end-mark, set-slot-value, add-slot-at, add-slot, take-frame, take-text, set-text-byte}
 
 -- ---- Values
 
@@ -324,17 +324,6 @@ module _ (h : List ℕ) (f : ℕ) (size : length h ≡ 16384) (hf : f < 256) whe
   unfolding take-frame slot-count-at
   take-frame-count = word-same _ _ _ (simp set-size (omega arith))
 
-  pub free-frame-local : Local (128 + 51 * f) (129 + 51 * f) h (free-frame h f)
-  unfolding free-frame
-  free-frame-local = local-set _ _ h _ _ (omega arith) (omega arith)
-
-  pub free-frame-word : frame-word (free-frame h f) f ≡ 0
-  unfolding free-frame frame-word
-  free-frame-word = word-same _ _ _ (omega arith)
-
-  pub free-frame-used : frame-used (free-frame h f) f ≡ false
-  free-frame-used = frame-word-free (free-frame h f) f free-frame-word
-
 -- ---- Made texts
 
 module _ (h : List ℕ) (k : ℕ) (size : length h ≡ 16384) (hk : k < 256) where
@@ -346,14 +335,6 @@ module _ (h : List ℕ) (k : ℕ) (size : length h ≡ 16384) (hk : k < 256) whe
     pub take-text-word : text-word (take-text h k n) k ≡ n + 1
     unfolding take-text text-word
     take-text-word = rw (le-ltb 64 n hn) (word-same _ _ _ (omega arith))
-
-  pub free-text-local : Local (13184 + k) (13185 + k) h (free-text h k)
-  unfolding free-text
-  free-text-local = local-set _ _ h _ _ (omega arith) (omega arith)
-
-  pub free-text-word : text-word (free-text h k) k ≡ 0
-  unfolding free-text text-word
-  free-text-word = word-same _ _ _ (omega arith)
 
 module _ (t : List ℕ) (k i b : ℕ) where
   pub set-byte-local : Local (64 * k + i) (64 * k + i + 1) t (set-text-byte t k i b)

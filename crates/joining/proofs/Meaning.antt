@@ -1,13 +1,13 @@
 -- What join_end and write_join mean: the end of `bounded`'s `operated`, and what the words hold once made text k is taken. Assumes nothing.
 use Prim.Native.Nat.{ℕ, _+_, _*_, _≤_, _<_}
-use mathlib.Core.Path.{_≡_, refl, _∙_, ap, sym}
+use mathlib.Core.Path.{_≡_, refl, _∙_, sym}
 use mathlib.Core.Logic.{_≢_}
 use mathlib.Core.Bool.{Bool, true, false, true≢false}
 use mathlib.Core.List.{List, _++_}
 use mathlib.Core.Option.{none, some}
 use native.Mathlib.Omega.{arith}
 use native.Mathlib.Decide.{decLt, decLe}
-use lib.ListN.{length, getD, set}
+use lib.ListN.{length, getD}
 use lib.Seq.{ext-getD}
 use lib.Dec.{ltb}
 use borrow.Author.Tests.{lt-ltb, le-ltb, le-leb, lt-leb}
@@ -17,17 +17,16 @@ use Rattle.framed.specs.Tokens.{Operator}
 use Rattle.framed.specs.Values.{shown, joined}
 use Rattle.framed.specs.Machine.{_>>=_, defined}
 use Rattle.bounded.specs.Operations.{measured, operated}
-use Rattle.heap.specs.Words.{text-byte, text-length, take-text}
+use Rattle.heap.specs.Words.{text-byte}
 use Rattle.heap.specs.Lists.{listed}
-use Rattle.heap.specs.Held.{text-held, texts-held}
+use Rattle.heap.specs.Held.{texts-held}
 use Rattle.heap.specs.Closed.{Sized}
-use Rattle.heap.proofs.Lists.{listed-length, listed-at, listed-same, listed-set}
-use Rattle.heap.proofs.Laws.{local-same, same-text-length, take-text-local, take-text-word}
+use Rattle.heap.proofs.Lists.{listed-length, listed-at}
 use Rattle.splice.specs.Splice.{splice}
 use Rattle.splice.proofs.Laws.{splice-here, splice-before, splice-behind}
 use Rattle.texts.specs.Literals.{literals-held}
 use Rattle.shown.specs.Shown.{shown-size}
-use Rattle.joining.specs.Joining.{joinable, join-end, join-result, join-bytes, join-written}
+use Rattle.joining.specs.Joining.{joinable, join-end, join-result, join-bytes}
 use Rattle.joining.proofs.Laws.{join-length}
 
 -- ---- The end
@@ -97,22 +96,6 @@ module _ (h t : List ℕ) (s : Sized h) (size : length t ≡ 16384) (k : ℕ) (h
       go (yes l) = splice-before t (64 * k) bs (64 * j + i) (omega arith)
       go (no g) = splice-behind t (64 * k) bs (64 * j + i) (omega arith)
 
-  -- made text k is taken and has these bytes, the others are as they were
-  pub spliced-texts : texts-held (take-text h k (length bs)) (splice t (64 * k) bs) ≡ set (texts-held h t) k bs
-  unfolding texts-held text-held text-length spliced
-  spliced-texts = listed-set (text-held h t) (text-held (take-text h k (length bs)) spliced) 256 k bs hk mine others
-    where
-      mine : text-held (take-text h k (length bs)) spliced k ≡ bs
-      mine =
-          ap (λ (n : ℕ). listed (text-byte spliced k) n) {x = text-length (take-text h k (length bs)) k} {y = length bs}
-          (let q = take-text-word h k (s .size) hk (length bs) le in omega arith)
-          ∙ here
-
-      others : (j : ℕ) → j < 256 → j ≢ k → text-held (take-text h k (length bs)) spliced j ≡ text-held h t j
-      others j lt ne =
-          ap (λ (n : ℕ). listed (text-byte spliced j) n) (same-text-length j (local-same (take-text-local h k (s .size) hk (length bs) le) _ _ (λ i lo hi lo′ hi′. omega arith)))
-          ∙ listed-same (text-byte t j) (text-byte spliced j) (text-length h j) (λ i il. away j i ne (let m = s .texts j lt in omega arith))
-
 -- where `#` has no end: the joined bytes have at most 64, and made text k then has them
 module _ (p l h t : List ℕ) (v w : Value) (none : join-end p h v w ≡ 0) where
   pub join-fits : shown-size p h v + shown-size p h w ≤ 64
@@ -125,13 +108,3 @@ module _ (p l h t : List ℕ) (v w : Value) (none : join-end p h v w ≡ 0) wher
       go (no n) true ev false ew = absurd (let z : _≡_ {A = ℕ} 31 0 = rw (ev, ew) at none in omega arith)
       go (no n) true ev true ew =
           absurd (let z : _≡_ {A = ℕ} 34 0 = rw (ev, ew, lt-ltb 64 (shown-size p h v + shown-size p h w) (omega arith)) at none in omega arith)
-
-  pub join-held : Sized h → length t ≡ 16384 → (k : ℕ) → k < 256
-      → texts-held (take-text h k (shown-size p h v + shown-size p h w)) (join-written p l h t k v w)
-      ≡ set (texts-held h t) k (join-bytes (literals-held p l) (texts-held h t) v w)
-  unfolding join-written
-  join-held s size k hk =
-      let f = join-fits in
-      let e = join-length p l h t v w in
-      rw (le-ltb 64 (shown-size p h v + shown-size p h w) f, ← e)
-      (spliced-texts h t s size k hk (join-bytes (literals-held p l) (texts-held h t) v w) (omega arith))

@@ -1,6 +1,6 @@
 -- Marking: how many frames are marked, and one law for each way through the functions that mark. Assumes nothing.
 use Prim.Native.Nat.{ℕ, zero, suc, _+_, _-_, _*_, _≤_, _<_}
-use mathlib.Core.Path.{_≡_, refl, _∙_, ap, sym}
+use mathlib.Core.Path.{_≡_, refl, _∙_, ap, ap₂, sym}
 use mathlib.Core.Logic.{_≢_}
 use mathlib.Core.List.{List, [], _∷_}
 use mathlib.Core.Bool.{Bool, true, false}
@@ -231,7 +231,9 @@ module _ (h m₀ o₀ : List ℕ) (a : Starts h (work m₀ o₀ 0)) (v : Value) 
 
       pub roots-done : (m′ o′ : List ℕ) (t′ : ℕ) → Now (visit-value v′ (work m o t)) m′ o′ t′ → Now (mark-roots h (work m₀ o₀ 0)) m′ o′ t′
       unfolding mark-roots
-      roots-done m′ o′ t′ nw′ = rw (← first-work, ← ev′) nw′
+      roots-done m′ o′ t′ nw′ =
+          let e : visit-value v′ (work m o t) ≡ visit-value (program-held h) (visit-value (self-held h) (work m₀ o₀ 0)) = ap₂ visit-value ev′ first-work in
+          rw e at nw′
 
 pub roots-keep : (h : List ℕ) (w : Work) → Closed h → Scannable h w → Scannable h (mark-roots h w)
 unfolding mark-roots

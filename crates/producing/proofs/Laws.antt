@@ -6,8 +6,6 @@ use mathlib.Core.List.{List, [], _∷_}
 use native.Mathlib.Omega.{arith}
 use lib.IntN.{ℤ, pos}
 use lib.ListN.{length}
-use mir.Syntax.{w32}
-use mir.Val.{Fits}
 use types.Run.{OneOf, miss}
 use denote.Enum.Declared.{tagOf}
 use borrow.Author.Tests.{le-ltb}
@@ -95,9 +93,6 @@ readable-from p l h t w = record {
 }
 
 -- ---- join
-
-pub join-size : (p l h t : List ℕ) (v w : Value) (a b : ℕ) → CanJoin p l h t v w → a ≡ shown-size p h v → b ≡ shown-size p h w → Fits w32 (a + b)
-join-size p l h t v w a b c ea eb = let s = c .short in let q : a + b ≤ 64 = omega arith in omega arith
 
 pub join-done : (p l h t : List ℕ) (v w : Value) (k a b : ℕ) (h′ t′ : List ℕ) → t′ ≡ join-written p l h t k v w → h′ ≡ take-text h k (a + b)
     → k ≡ next-text h → a ≡ shown-size p h v → b ≡ shown-size p h w → Joins p l h t v w (Value.Text (Text.Made k)) h′ t′

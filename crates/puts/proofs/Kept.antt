@@ -1,5 +1,5 @@
 -- What the words hold after put_slot: the frame's slots are those that `framed` sets, and all else is as it was. Assumes nothing.
-use Prim.Native.Nat.{ℕ, _+_, _*_, _<_}
+use Prim.Native.Nat.{ℕ, _<_}
 use mathlib.Core.Path.{_≡_, refl, _∙_, ap, sym}
 use mathlib.Core.List.{List}
 use mathlib.Core.Bool.{true, true≢false}
@@ -14,9 +14,8 @@ use Rattle.bounded.specs.Check.{has-place}
 use Rattle.heap.specs.Words.{frame-used, slot-count-at, slot-name-at, set-slot-value, add-slot}
 use Rattle.heap.specs.Held.{slot-held, slots-held, frames-held, frames-in-use}
 use Rattle.heap.specs.Closed.{Sized, ValueFits}
-use Rattle.heap.proofs.Laws.{Local, set-slot-local, add-slot-is, add-slot-local}
-use Rattle.heap.proofs.Held.{SameTexts, SameHeader, set-slot-frames, set-slot-in-use, set-slot-texts, set-slot-header, set-slot-sized}
-use Rattle.heap.proofs.Held.{add-slot-frames, add-slot-in-use, add-slot-texts, add-slot-header, add-slot-sized}
+use Rattle.heap.proofs.Held.{SameTexts, SameHeader, set-slot-frames, set-slot-in-use, set-slot-texts, set-slot-header}
+use Rattle.heap.proofs.Held.{add-slot-frames, add-slot-in-use, add-slot-texts, add-slot-header}
 use Rattle.paths.specs.declared.SlotFound.{SlotFound}
 use Rattle.paths.specs.Paths.{slot-from}
 use Rattle.puts.specs.Puts.{put-slot}
@@ -57,12 +56,6 @@ module _ (h : List ℕ) (f x : ℕ) (v : Value) where
         (λ i a. rw (a .put v) (rw (named i a) at (set-slot-frames h s f hf u i v (inside i a) vf)))
         (λ m. rw (m .put v) (add-slot-frames h s f hf u x v (has-room ok m) vf))
 
-    pub put-local : Local (129 + 51 * f) (179 + 51 * f) h (put-slot h f x v)
-    put-local =
-        put-case (λ k. Local (129 + 51 * f) (179 + 51 * f) h k)
-        (λ i a. set-slot-local h f i v (s .size) hf (let b = inside i a in let c = s .slots f hf u in omega arith))
-        (λ m. rw (add-slot-is h f x v (has-room ok m)) (add-slot-local h f (slot-count-at h f) x v (s .size) hf (has-room ok m)))
-
     pub put-in-use : frames-in-use (put-slot h f x v) ≡ frames-in-use h
     put-in-use =
         put-case (λ k. frames-in-use k ≡ frames-in-use h)
@@ -77,8 +70,3 @@ module _ (h : List ℕ) (f x : ℕ) (v : Value) where
     put-header =
         put-case (λ k. SameHeader h k)
         (λ i a. set-slot-header h s f hf u i v (inside i a)) (λ m. add-slot-header h s f hf u x v (has-room ok m))
-
-    pub put-sized : Sized (put-slot h f x v)
-    put-sized =
-        put-case (λ k. Sized k)
-        (λ i a. set-slot-sized h s f hf u i v (inside i a)) (λ m. add-slot-sized h s f hf u x v (has-room ok m))

@@ -328,11 +328,3 @@ module _ {h t : List ℕ} {l : Limits} (w : StateWellFormed h t l) where
   pub slot-there : (f i : ℕ) → FrameInUse h f → i < slot-count-at h f → NamesThere l (slot-value-at h f i)
   unfolding slot-value-at
   slot-there f i u lt = read-formed h l (slot-tag-at h f i) (slot-number-at h f i) (w .frame f u .slot i lt .value) .second
-
--- as callers have it: the answer of state_well_formed, and that it is true
-module _ (h t : List ℕ) (l : Limits) (b : Bool) (e : b ≡ state-well-formed h t l) where
-  pub decided-formed : b ≡ true → StateWellFormed h t l
-  decided-formed q = state-decides h t l .if-true (sym e ∙ q)
-
-  pub decided-closed : b ≡ true → Closed h
-  decided-closed q = well-formed-closed (decided-formed q)

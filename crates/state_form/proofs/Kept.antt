@@ -13,13 +13,13 @@ use Rattle.words.proofs.Laws.{set-size, word-other, word-same}
 use Rattle.framed.specs.declared.Value.{Value}
 use Rattle.framed.specs.Bytes.{string-byte}
 use Rattle.heap.specs.Words.{tag-of, number-of, position, end-mark, frame-word, frame-used, slot-count-at, slot-name-at, slot-tag-at, slot-number-at, text-word, text-used, text-length, text-byte}
-use Rattle.heap.specs.Words.{set-self, set-program, set-position, set-end-mark, set-slot-value, add-slot-at, add-slot, take-frame, take-text, set-text-byte}
+use Rattle.heap.specs.Words.{set-self, set-program, set-position, set-slot-value, add-slot-at, add-slot, take-frame, take-text, set-text-byte}
 use Rattle.heap.specs.Held.{frames-in-use, texts-in-use}
 use Rattle.heap.specs.Closed.{FrameInUse, TextInUse, NamesInUse}
 use Rattle.heap.proofs.Lists.{zeros-at, passing-none}
 use Rattle.heap.proofs.Laws.{frame-word-free, text-word-free}
 use Rattle.heap.proofs.Laws.{Local, Same, local-same, same-part, same-position, same-end-mark, same-frame-word, same-frame-used, same-count, same-name, same-tag, same-number, same-text-used, same-text-length}
-use Rattle.heap.proofs.Laws.{set-self-local, set-program-local, set-position-local, set-position-position, set-end-local, set-end-end}
+use Rattle.heap.proofs.Laws.{set-self-local, set-program-local, set-position-local, set-position-position}
 use Rattle.heap.proofs.Laws.{set-slot-local, set-slot-tag, set-slot-number, set-slot-count, set-slot-name, set-slot-other-tag, set-slot-other-number}
 use Rattle.heap.proofs.Laws.{add-slot-is, add-slot-local, add-slot-count, add-slot-name, add-slot-tag, add-slot-number, add-slot-old-name, add-slot-old-tag, add-slot-old-number}
 use Rattle.heap.proofs.Laws.{take-frame-local, take-frame-word, take-frame-used, take-frame-count, take-text-local, take-text-word, set-byte-other}
@@ -177,15 +177,6 @@ module _ (h t : List ℕ) (l : Limits) (w : StateWellFormed h t l) where
       (rw (c .away 2 (λ p q. omega arith), c .away 3 (λ p q. omega arith)) (w .program))
       (rw (set-position-position h size p) le)
       (rw (same-end-mark (local-same c 5 6 (λ k lo hi lo′ hi′. omega arith))) (w .end))
-
-  pub set-end-formed : (e : ℕ) → (e ≡ 0) ⊎ ((31 ≤ e) × (e ≤ 37)) → StateWellFormed (set-end-mark h e) t l
-  set-end-formed e o =
-      let c = set-end-local h size e in
-      header-kept h (set-end-mark h e) t l 5 6 c (omega arith) w
-      (rw (c .away 0 (λ p q. omega arith), c .away 1 (λ p q. omega arith)) (w .self))
-      (rw (c .away 2 (λ p q. omega arith), c .away 3 (λ p q. omega arith)) (w .program))
-      (rw (same-position (local-same c 4 5 (λ k lo hi lo′ hi′. omega arith))) (w .position-there))
-      (rw (set-end-end h size e) o)
 
 -- ---- A change of one frame, in use afterwards
 

@@ -13,7 +13,7 @@ use Rattle.tables.specs.declared.InstructionEntry.{InstructionEntry}
 use Rattle.tables.specs.Fields.{frame-limit, text-limit, names, literals, expressions, instructions, codes, path-names}
 use Rattle.tables.specs.Fields.{program-slots, start, name-length, literal-length, code-first, path-name, instruction-kind, instruction-a}
 use Rattle.tables.specs.Fields.{instruction-b, instruction-c, instruction-link, expression-kind, expression-a, expression-b, slot-name, slot-link}
-use Rattle.tables.specs.Fields.{name-byte, literal-byte, slot-after, instruction-after}
+use Rattle.tables.specs.Fields.{name-byte, literal-byte, slot-after}
 use Rattle.tables.specs.Entries.{expression-of, expression-at, instruction-of, instruction-at}
 use Rattle.table_updates.specs.Encode.{Encodable, expression-kind-of, expression-a-of, expression-b-of, instruction-kind-of, instruction-a-of, instruction-b-of, instruction-c-of}
 use Rattle.table_updates.specs.Updates.{set-frame-limit, set-text-limit, set-names, set-literals, set-expressions, set-instructions, set-codes, set-path-names}
@@ -173,45 +173,9 @@ module _ (p q : List ℕ) (lo hi : ℕ) (u : Region p q lo hi) where
   unfolding program-slots
   program-slots-kept out = u .away _ out
 
-  pub start-kept : (lo ≤ 9 → 9 < hi → ⊥) → start q ≡ start p
-  unfolding start
-  start-kept out = u .away _ out
-
-  pub name-length-kept : (k : ℕ) → (lo ≤ 64 + 17 * k → 64 + 17 * k < hi → ⊥) → name-length q k ≡ name-length p k
-  unfolding name-length
-  name-length-kept k out = u .away _ out
-
-  pub literal-length-kept : (k : ℕ) → (lo ≤ 2240 + k → 2240 + k < hi → ⊥) → literal-length q k ≡ literal-length p k
-  unfolding literal-length
-  literal-length-kept k out = u .away _ out
-
   pub code-first-kept : (k : ℕ) → (lo ≤ 2368 + k → 2368 + k < hi → ⊥) → code-first q k ≡ code-first p k
   unfolding code-first
   code-first-kept k out = u .away _ out
-
-  pub path-name-kept : (j : ℕ) → (lo ≤ 2496 + j → 2496 + j < hi → ⊥) → path-name q j ≡ path-name p j
-  unfolding path-name
-  path-name-kept j out = u .away _ out
-
-  pub instruction-kind-kept : (i : ℕ) → (lo ≤ 4544 + 5 * i → 4544 + 5 * i < hi → ⊥) → instruction-kind q i ≡ instruction-kind p i
-  unfolding instruction-kind
-  instruction-kind-kept i out = u .away _ out
-
-  pub instruction-a-kept : (i : ℕ) → (lo ≤ 4545 + 5 * i → 4545 + 5 * i < hi → ⊥) → instruction-a q i ≡ instruction-a p i
-  unfolding instruction-a
-  instruction-a-kept i out = u .away _ out
-
-  pub instruction-b-kept : (i : ℕ) → (lo ≤ 4546 + 5 * i → 4546 + 5 * i < hi → ⊥) → instruction-b q i ≡ instruction-b p i
-  unfolding instruction-b
-  instruction-b-kept i out = u .away _ out
-
-  pub instruction-c-kept : (i : ℕ) → (lo ≤ 4547 + 5 * i → 4547 + 5 * i < hi → ⊥) → instruction-c q i ≡ instruction-c p i
-  unfolding instruction-c
-  instruction-c-kept i out = u .away _ out
-
-  pub instruction-link-kept : (i : ℕ) → (lo ≤ 4548 + 5 * i → 4548 + 5 * i < hi → ⊥) → instruction-link q i ≡ instruction-link p i
-  unfolding instruction-link
-  instruction-link-kept i out = u .away _ out
 
   pub expression-kind-kept : (x : ℕ) → (lo ≤ 7104 + 5 * x → 7104 + 5 * x < hi → ⊥) → expression-kind q x ≡ expression-kind p x
   unfolding expression-kind
@@ -233,32 +197,15 @@ module _ (p q : List ℕ) (lo hi : ℕ) (u : Region p q lo hi) where
   unfolding slot-link
   slot-link-kept x out = u .away _ out
 
-  pub name-byte-kept : (k i : ℕ) → (lo ≤ 65 + 17 * k + i → 65 + 17 * k + i < hi → ⊥) → name-byte q k i ≡ name-byte p k i
-  unfolding name-byte
-  name-byte-kept k i out = u .away _ out
-
-  pub literal-byte-kept : (k i : ℕ) → (lo ≤ 64 * k + i → 64 * k + i < hi → ⊥) → literal-byte q k i ≡ literal-byte p k i
-  unfolding literal-byte
-  literal-byte-kept k i out = u .away _ out
-
   pub slot-after-kept : (x : ℕ) → (lo ≤ 7108 + 5 * x → 7108 + 5 * x < hi → ⊥) → slot-after q x ≡ slot-after p x
   unfolding slot-after
   slot-after-kept x out = rw (slot-link-kept x out)
-
-  pub instruction-after-kept : (i : ℕ) → (lo ≤ 4548 + 5 * i → 4548 + 5 * i < hi → ⊥) → instruction-after q i ≡ instruction-after p i
-  unfolding instruction-after
-  instruction-after-kept i out = rw (instruction-link-kept i out)
 
   -- an entry is kept where its first words are outside the region
   pub expression-at-kept : (x : ℕ) → (lo < 7107 + 5 * x → 7104 + 5 * x < hi → ⊥) → expression-at q x ≡ expression-at p x
   unfolding expression-at
   expression-at-kept x out =
       rw (expression-kind-kept x (λ a b. out (omega arith) (omega arith)), expression-a-kept x (λ a b. out (omega arith) (omega arith)), expression-b-kept x (λ a b. out (omega arith) (omega arith)))
-
-  pub instruction-at-kept : (i : ℕ) → (lo < 4548 + 5 * i → 4544 + 5 * i < hi → ⊥) → instruction-at q i ≡ instruction-at p i
-  unfolding instruction-at
-  instruction-at-kept i out =
-      rw (instruction-kind-kept i (λ a b. out (omega arith) (omega arith)), instruction-a-kept i (λ a b. out (omega arith) (omega arith)), instruction-b-kept i (λ a b. out (omega arith) (omega arith)), instruction-c-kept i (λ a b. out (omega arith) (omega arith)))
 
 -- ---- What is read after an update of the same field
 

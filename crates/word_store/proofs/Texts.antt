@@ -28,11 +28,6 @@ use Rattle.word_store.proofs.Written.{same-text-at, same-frames-at}
 -- ---- The bytes written
 
 module _ (k : ℕ) where
-  pub write-size : (t : List ℕ) (i : ℕ) (bs : List ℕ) → length (write-text t k i bs) ≡ length t
-  unfolding write-text
-  write-size t i [] = refl
-  write-size t i (b ∷ bs) = write-size (set-text-byte t k i b) (i + 1) bs ∙ set-byte-local t k i b .size
-
   write-before : (t : List ℕ) (i : ℕ) (bs : List ℕ) → i + length bs ≤ 64 → (j : ℕ) → j < i → text-byte (write-text t k i bs) k j ≡ text-byte t k j
   unfolding write-text
   write-before t i [] le j lt = refl

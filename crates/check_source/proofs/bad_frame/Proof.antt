@@ -6,15 +6,12 @@ use Rattle.check_source.proofs.bad_frame.Reads as reads
 use Rattle.check_source.proofs.bad_frame.Lts as lts
 use Rattle.slots.proofs.bad_frame.Reads as bad-frame-reads
 
--- src/lib.rt:61:9
 returns : tie.Need-returns
 returns c = search not-bad
 
--- src/lib.rt:63:5
 bad-frame-requires : tie.Need-bad-frame-requires
 bad-frame-requires c κs = search needs
 
--- src/lib.rt:55:1
 returns-2 : tie.Need-returns-2
 returns-2 c = search needs
 

@@ -9,51 +9,39 @@ use Rattle.limits.proofs.lengths_refusal.Reads as lengths-refusal-reads
 use Rattle.limits.proofs.limits_refusal.Reads as limits-refusal-reads
 use Rattle.check_source.proofs.source_refusal.Reads as source-refusal-reads
 
--- src/lib.rt:174:9
 lengths-refusal-requires : tie.Need-lengths-refusal-requires
 lengths-refusal-requires c κs = search needs
 
--- src/lib.rt:176:9
 answer-requires : tie.Need-answer-requires
 answer-requires c κs = search needs
 
--- src/lib.rt:176:9
 returns : tie.Need-returns
 returns c = (search check-lengths, (search needs, search kept-lengths))
 
--- src/lib.rt:178:9
 limits-refusal-requires : tie.Need-limits-refusal-requires
 limits-refusal-requires c κs = search needs
 
--- src/lib.rt:180:9
 answer-requires-2 : tie.Need-answer-requires-2
 answer-requires-2 c κs = search needs
 
--- src/lib.rt:180:9
 returns-2 : tie.Need-returns-2
 returns-2 c = (search check-limits, (search needs, search kept-limits))
 
--- src/lib.rt:182:9
 source-refusal-requires : tie.Need-source-refusal-requires
 source-refusal-requires c κs = (search check-short, (search needs, (search needs, (search needs, search needs))))
 
--- src/lib.rt:183:5
 answer-requires-3 : tie.Need-answer-requires-3
 answer-requires-3 c κs = search needs
 
--- src/lib.rt:150:1
 same-length : tie.Need-same-length
 same-length c = search needs
 
--- src/lib.rt:150:1
 same-length-2 : tie.Need-same-length-2
 same-length-2 c = search needs
 
--- src/lib.rt:150:1
 same-length-3 : tie.Need-same-length-3
 same-length-3 c = search needs
 
--- src/lib.rt:150:1
 returns-3 : tie.Need-returns-3
 returns-3 c = (search check-all, (search needs, search (kept-all, c .answer3 .ensures, c .before .before .before .before .before .before .before .source-refusal .ensures .0, c .before .before .before .before .before .before .before .source-refusal .ensures .1 .1)))
 

@@ -11,55 +11,42 @@ use Rattle.limits.proofs.many_frames.Reads as many-frames-reads
 use Rattle.limits.proofs.outside_code.Reads as outside-code-reads
 use Rattle.start.proofs.has_start.Reads as has-start-reads
 
--- src/lib.rt:73:8
 outside-code-requires : tie.Need-outside-code-requires
 outside-code-requires c κs = search needs
 
--- src/lib.rt:74:9
 returns : tie.Need-returns
 returns c = search means-7
 
--- src/lib.rt:76:8
 bad-frame-requires : tie.Need-bad-frame-requires
 bad-frame-requires c κs = search needs
 
--- src/lib.rt:77:9
 returns-2 : tie.Need-returns-2
 returns-2 c = search means-8
 
--- src/lib.rt:79:8
 above-limit-requires : tie.Need-above-limit-requires
 above-limit-requires c κs = search needs
 
--- src/lib.rt:80:9
 returns-3 : tie.Need-returns-3
 returns-3 c = search means-9
 
--- src/lib.rt:82:8
 far-up-requires : tie.Need-far-up-requires
 far-up-requires c κs = search needs
 
--- src/lib.rt:83:9
 returns-4 : tie.Need-returns-4
 returns-4 c = search means-10
 
--- src/lib.rt:85:8
 has-start-requires : tie.Need-has-start-requires
 has-start-requires c κs = search needs
 
--- src/lib.rt:86:12
 many-frames-requires : tie.Need-many-frames-requires
 many-frames-requires c κs = search needs
 
--- src/lib.rt:87:13
 returns-5 : tie.Need-returns-5
 returns-5 c = search means-12
 
--- src/lib.rt:89:9
 returns-6 : tie.Need-returns-6
 returns-6 c = search means-0
 
--- src/lib.rt:67:1
 returns-7 : tie.Need-returns-7
 returns-7 c = search means-11
 

@@ -8,63 +8,48 @@ use Rattle.check_source.proofs.meaning_refusal.Reads as meaning-refusal
 use Rattle.grammar.proofs.one_frame.Reads as one-frame-reads
 use Rattle.survey.proofs.survey.Reads as survey-reads
 
--- src/lib.rt:115:9
 survey-requires : tie.Need-survey-requires
 survey-requires c κs = search needs
 
--- src/lib.rt:120:9
 same-length : tie.Need-same-length
 same-length c = search needs
 
--- src/lib.rt:120:9
 same-length-2 : tie.Need-same-length-2
 same-length-2 c = search needs
 
--- src/lib.rt:120:9
 same-length-3 : tie.Need-same-length-3
 same-length-3 c = search needs
 
--- src/lib.rt:120:9
 returns : tie.Need-returns
 returns c = (search source-early, (search needs, search kept-not))
 
--- src/lib.rt:122:8
 one-frame-requires : tie.Need-one-frame-requires
 one-frame-requires c κs = search needs
 
--- src/lib.rt:123:9
 meaning-refusal-requires : tie.Need-meaning-refusal-requires
 meaning-refusal-requires c κs = (search needs, search found-meaning)
 
--- src/lib.rt:123:9
 same-length-4 : tie.Need-same-length-4
 same-length-4 c = search needs
 
--- src/lib.rt:123:9
 same-length-5 : tie.Need-same-length-5
 same-length-5 c = search needs
 
--- src/lib.rt:123:9
 same-length-6 : tie.Need-same-length-6
 same-length-6 c = search needs
 
--- src/lib.rt:123:9
 returns-2 : tie.Need-returns-2
 returns-2 c = (search source-means, (search needs, search kept-here))
 
--- src/lib.rt:95:1
 same-length-7 : tie.Need-same-length-7
 same-length-7 c = search needs
 
--- src/lib.rt:95:1
 same-length-8 : tie.Need-same-length-8
 same-length-8 c = search needs
 
--- src/lib.rt:95:1
 same-length-9 : tie.Need-same-length-9
 same-length-9 c = search needs
 
--- src/lib.rt:95:1
 returns-3 : tie.Need-returns-3
 returns-3 c = (search source-six, (search needs, search kept-six))
 

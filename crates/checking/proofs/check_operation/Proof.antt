@@ -3,43 +3,33 @@ use borrow.Author.Needs.{needs}
 use Rattle.checking.proofs.check_operation.Statement.{statement}
 use Rattle.checking.proofs.check_operation.Tie as tie
 
--- src/lib.rt:20:29
 operand-requires : tie.Need-operand-requires
 operand-requires c κs = search needs
 
--- src/lib.rt:20:24
 enum-known-v : tie.Need-enum-known-v
 enum-known-v c = search needs
 
--- src/lib.rt:21:9
 enum-told : tie.Need-enum-told
 enum-told c = search needs
 
--- src/lib.rt:21:9
 returns : tie.Need-returns
 returns c = search operation-left
 
--- src/lib.rt:23:29
 operand-requires-2 : tie.Need-operand-requires-2
 operand-requires-2 c κs = search needs
 
--- src/lib.rt:23:24
 enum-known-w : tie.Need-enum-known-w
 enum-known-w c = search needs
 
--- src/lib.rt:24:9
 enum-told-2 : tie.Need-enum-told-2
 enum-told-2 c = search needs
 
--- src/lib.rt:24:9
 returns-2 : tie.Need-returns-2
 returns-2 c = search operation-right
 
--- src/lib.rt:26:5
 operate-end-requires : tie.Need-operate-end-requires
 operate-end-requires c κs = search needs
 
--- src/lib.rt:16:1
 returns-3 : tie.Need-returns-3
 returns-3 c = search operation-both
 

@@ -3,27 +3,21 @@ use borrow.Author.Needs.{needs}
 use Rattle.checking.proofs.check_single.Statement.{statement}
 use Rattle.checking.proofs.check_single.Tie as tie
 
--- src/lib.rt:44:34
 enum-known-e : tie.Need-enum-known-e
 enum-known-e c = search needs
 
--- src/lib.rt:45:52
 base-in-requires : tie.Need-base-in-requires
 base-in-requires c κs = search needs
 
--- src/lib.rt:45:9
 check-operand-requires : tie.Need-check-operand-requires
 check-operand-requires c κs = search needs
 
--- src/lib.rt:45:9
 returns : tie.Need-returns
 returns c = search single-operand
 
--- src/lib.rt:47:5
 check-operation-requires : tie.Need-check-operation-requires
 check-operation-requires c κs = search needs
 
--- src/lib.rt:40:1
 returns-2 : tie.Need-returns-2
 returns-2 c = search single-operation
 

@@ -15,31 +15,24 @@ Inv-loop m₀ i₀ m i = Clearing m₀ m i
 abbrev μ-loop : tie.MeasureT-loop
 μ-loop m₀ i₀ m i = length m - i
 
--- src/lib.rt:10:5
 loop-holds : tie.Need-loop-holds Inv-loop μ-loop
 loop-holds c = search clearing-start
 
--- src/lib.rt:11:9
 set-word-requires : tie.Need-set-word-requires Inv-loop μ-loop
 set-word-requires c κs = search needs
 
--- src/lib.rt:12:9
 add-i : tie.Need-add-i Inv-loop μ-loop
 add-i c = omega arith
 
--- src/lib.rt:10:5
 loop-less : tie.Need-loop-less Inv-loop μ-loop
 loop-less c = omega arith
 
--- src/lib.rt:10:5
 loop-again : tie.Need-loop-again Inv-loop μ-loop
 loop-again c = search clearing-again
 
--- src/lib.rt:6:1
 same-length : tie.Need-same-length Inv-loop μ-loop
 same-length c = search needs
 
--- src/lib.rt:6:1
 returns : tie.Need-returns Inv-loop μ-loop
 returns c = search clearing-done
 

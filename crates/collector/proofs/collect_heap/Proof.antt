@@ -9,31 +9,24 @@ use Rattle.collector.proofs.sweep_frames.Reads as sweep-frames-reads
 use Rattle.collector.proofs.sweep_texts.Reads as sweep-texts-reads
 use Rattle.mark.proofs.mark.Reads as mark-reads
 
--- src/lib.rt:60:5
 mark-requires : tie.Need-mark-requires
 mark-requires c κs = search needs
 
--- src/lib.rt:61:5
 sweep-frames-requires : tie.Need-sweep-frames-requires
 sweep-frames-requires c κs = search needs
 
--- src/lib.rt:62:5
 sweep-texts-requires : tie.Need-sweep-texts-requires
 sweep-texts-requires c κs = search needs
 
--- src/lib.rt:63:9
 count-marks-requires : tie.Need-count-marks-requires
 count-marks-requires c κs = search needs
 
--- src/lib.rt:64:9
 count-marks-requires-2 : tie.Need-count-marks-requires-2
 count-marks-requires-2 c κs = search needs
 
--- src/lib.rt:54:1
 same-length : tie.Need-same-length
 same-length c = search needs
 
--- src/lib.rt:54:1
 returns : tie.Need-returns
 returns c = (search collect-is, search collect-means)
 

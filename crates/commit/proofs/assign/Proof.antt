@@ -9,43 +9,33 @@ use Rattle.commit.proofs.root.Reads as root-reads
 use Rattle.commit.proofs.set_root.Reads as set-root-reads
 use Rattle.evaluation.proofs.make.Reads as make-reads
 
--- src/lib.rt:61:9
 root-requires : tie.Need-root-requires
 root-requires c κs = search needs
 
--- src/lib.rt:62:9
 make-requires : tie.Need-make-requires
 make-requires c κs = search needs
 
--- src/lib.rt:64:9
 set-root-requires : tie.Need-set-root-requires
 set-root-requires c κs = search needs
 
--- src/lib.rt:65:9
 same-length : tie.Need-same-length
 same-length c = search needs
 
--- src/lib.rt:65:9
 same-length-2 : tie.Need-same-length-2
 same-length-2 c = search needs
 
--- src/lib.rt:65:9
 returns : tie.Need-returns
 returns c = search sets-root
 
--- src/lib.rt:67:5
 put-requires : tie.Need-put-requires
 put-requires c κs = search needs
 
--- src/lib.rt:45:1
 same-length-3 : tie.Need-same-length-3
 same-length-3 c = search needs
 
--- src/lib.rt:45:1
 same-length-4 : tie.Need-same-length-4
 same-length-4 c = search needs
 
--- src/lib.rt:45:1
 returns-2 : tie.Need-returns-2
 returns-2 c = search puts-root
 

@@ -11,51 +11,39 @@ use Rattle.tables.proofs.instruction_b.Reads as instruction-b-reads
 use Rattle.tables.proofs.instruction_c.Reads as instruction-c-reads
 use Rattle.tables.proofs.instruction_kind.Reads as instruction-kind-reads
 
--- src/lib.rt:91:9
 instruction-kind-requires : tie.Need-instruction-kind-requires
 instruction-kind-requires c κs = search needs
 
--- src/lib.rt:93:9
 go-on-requires : tie.Need-go-on-requires
 go-on-requires c κs = search needs
 
--- src/lib.rt:94:9
 same-length : tie.Need-same-length
 same-length c = search needs
 
--- src/lib.rt:94:9
 returns : tie.Need-returns
 returns c = search commit-shows
 
--- src/lib.rt:96:9
 instruction-a-requires : tie.Need-instruction-a-requires
 instruction-a-requires c κs = search needs
 
--- src/lib.rt:97:9
 instruction-b-requires : tie.Need-instruction-b-requires
 instruction-b-requires c κs = search needs
 
--- src/lib.rt:98:9
 instruction-c-requires : tie.Need-instruction-c-requires
 instruction-c-requires c κs = search needs
 
--- src/lib.rt:99:5
 assign-requires : tie.Need-assign-requires
 assign-requires c κs = (search commit-can-assign, search needs)
 
--- src/lib.rt:100:5
 go-on-requires-2 : tie.Need-go-on-requires-2
 go-on-requires-2 c κs = search needs
 
--- src/lib.rt:86:1
 same-length-2 : tie.Need-same-length-2
 same-length-2 c = search needs
 
--- src/lib.rt:86:1
 same-length-3 : tie.Need-same-length-3
 same-length-3 c = search needs
 
--- src/lib.rt:86:1
 returns-2 : tie.Need-returns-2
 returns-2 c = search commit-assigned
 

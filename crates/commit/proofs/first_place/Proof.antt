@@ -7,19 +7,15 @@ use Rattle.commit.proofs.first_place.Lts as lts
 use Rattle.tables.proofs.code_first.Reads as code-first-reads
 use Rattle.tables.proofs.codes.Reads as codes-reads
 
--- src/lib.rt:54:8
 codes-requires : tie.Need-codes-requires
 codes-requires c κs = search needs
 
--- src/lib.rt:55:9
 returns : tie.Need-returns
 returns c = search place-none
 
--- src/lib.rt:57:5
 code-first-requires : tie.Need-code-first-requires
 code-first-requires c κs = search needs
 
--- src/lib.rt:51:1
 returns-2 : tie.Need-returns-2
 returns-2 c = search place-there
 

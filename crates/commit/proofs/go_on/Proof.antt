@@ -6,19 +6,15 @@ use Rattle.commit.proofs.go_on.Lts as lts
 use Rattle.heap.proofs.set_position.Reads as set-position-reads
 use Rattle.tables.proofs.instruction_after.Reads as instruction-after-reads
 
--- src/lib.rt:84:27
 instruction-after-requires : tie.Need-instruction-after-requires
 instruction-after-requires c κs = search needs
 
--- src/lib.rt:84:5
 set-position-requires : tie.Need-set-position-requires
 set-position-requires c κs = search needs
 
--- src/lib.rt:81:1
 same-length : tie.Need-same-length
 same-length c = search needs
 
--- src/lib.rt:81:1
 returns : tie.Need-returns
 returns c = cc
 

@@ -7,35 +7,27 @@ use Rattle.commit.proofs.put.Lts as lts
 use Rattle.puts.proofs.put_slot.Reads as put-slot-reads
 use Rattle.puts.proofs.put_target.Reads as put-target-reads
 
--- src/lib.rt:16:34
 put-target-requires : tie.Need-put-target-requires
 put-target-requires c κs = search needs
 
--- src/lib.rt:16:23
 enum-known-f : tie.Need-enum-known-f
 enum-known-f c = search needs
 
--- src/lib.rt:17:9
 enum-told : tie.Need-enum-told
 enum-told c = search needs
 
--- src/lib.rt:17:9
 same-length : tie.Need-same-length
 same-length c = search needs
 
--- src/lib.rt:17:9
 returns : tie.Need-returns
 returns c = search put-nowhere
 
--- src/lib.rt:19:5
 put-slot-requires : tie.Need-put-slot-requires
 put-slot-requires c κs = search needs
 
--- src/lib.rt:13:1
 same-length-2 : tie.Need-same-length-2
 same-length-2 c = search needs
 
--- src/lib.rt:13:1
 returns-2 : tie.Need-returns-2
 returns-2 c = search put-somewhere
 

@@ -7,19 +7,15 @@ use Rattle.commit.proofs.root.Lts as lts
 use Rattle.heap.proofs.program_value.Reads as program-value-reads
 use Rattle.heap.proofs.self_value.Reads as self-value-reads
 
--- src/lib.rt:133:9
 self-value-requires : tie.Need-self-value-requires
 self-value-requires c κs = search needs
 
--- src/lib.rt:133:9
 returns : tie.Need-returns
 returns c = search root-self
 
--- src/lib.rt:135:5
 program-value-requires : tie.Need-program-value-requires
 program-value-requires c κs = search needs
 
--- src/lib.rt:129:1
 returns-2 : tie.Need-returns-2
 returns-2 c = search root-program
 

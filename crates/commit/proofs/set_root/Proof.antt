@@ -7,27 +7,21 @@ use Rattle.commit.proofs.set_root.Lts as lts
 use Rattle.heap.proofs.set_program.Reads as set-program-reads
 use Rattle.heap.proofs.set_self.Reads as set-self-reads
 
--- src/lib.rt:142:9
 set-self-requires : tie.Need-set-self-requires
 set-self-requires c κs = search needs
 
--- src/lib.rt:143:9
 same-length : tie.Need-same-length
 same-length c = search needs
 
--- src/lib.rt:143:9
 returns : tie.Need-returns
 returns c = search sets-self-root
 
--- src/lib.rt:145:5
 set-program-requires : tie.Need-set-program-requires
 set-program-requires c κs = search needs
 
--- src/lib.rt:138:1
 same-length-2 : tie.Need-same-length-2
 same-length-2 c = search needs
 
--- src/lib.rt:138:1
 returns-2 : tie.Need-returns-2
 returns-2 c = search sets-program-root
 

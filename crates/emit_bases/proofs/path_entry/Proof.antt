@@ -4,11 +4,9 @@ use Rattle.emit_bases.proofs.path_entry.Tie as tie
 use Rattle.emit_bases.proofs.path_entry.Reads as reads
 use Rattle.emit_bases.proofs.path_entry.Lts as lts
 
--- src/lib.rt:15:9
 returns : tie.Need-returns
 returns c = search entry-self
 
--- src/lib.rt:11:1
 returns-2 : tie.Need-returns-2
 returns-2 c = search entry-program
 

@@ -4,11 +4,9 @@ use Rattle.emit_leaves.proofs.assign_entry.Tie as tie
 use Rattle.emit_leaves.proofs.assign_entry.Reads as reads
 use Rattle.emit_leaves.proofs.assign_entry.Lts as lts
 
--- src/lib.rt:51:9
 returns : tie.Need-returns
 returns c = search assign-self
 
--- src/lib.rt:47:1
 returns-2 : tie.Need-returns-2
 returns-2 c = search assign-program
 

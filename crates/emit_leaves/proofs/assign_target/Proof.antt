@@ -10,31 +10,24 @@ use Rattle.emit_paths.proofs.emit_path.Reads as emit-path-reads
 use Rattle.emit_steps.proofs.less.Reads as less-reads
 use Rattle.table_updates.proofs.set_instruction.Reads as set-instruction-reads
 
--- src/lib.rt:131:9
 emit-path-requires : tie.Need-emit-path-requires
 emit-path-requires c κs = search needs
 
--- src/lib.rt:132:9
 less-requires : tie.Need-less-requires
 less-requires c κs = search needs
 
--- src/lib.rt:133:9
 assign-entry-requires : tie.Need-assign-entry-requires
 assign-entry-requires c κs = search needs
 
--- src/lib.rt:134:5
 set-instruction-requires : tie.Need-set-instruction-requires
 set-instruction-requires c κs = search needs
 
--- src/lib.rt:135:5
 skip-requires : tie.Need-skip-requires
 skip-requires c κs = search needs
 
--- src/lib.rt:117:1
 same-length : tie.Need-same-length
 same-length c = search needs
 
--- src/lib.rt:117:1
 returns : tie.Need-returns
 returns c = search target-one
 

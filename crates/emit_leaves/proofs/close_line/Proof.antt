@@ -9,27 +9,21 @@ use Rattle.emit_leaves.proofs.skip.Reads as skip-reads
 use Rattle.grammar.proofs.look.Reads as look-reads
 use Rattle.table_updates.proofs.set_instruction_link.Reads as set-instruction-link-reads
 
--- src/lib.rt:211:9
 skip-requires : tie.Need-skip-requires
 skip-requires c κs = search needs
 
--- src/lib.rt:212:9
 look-requires : tie.Need-look-requires
 look-requires c κs = search needs
 
--- src/lib.rt:213:9
 line-link-requires : tie.Need-line-link-requires
 line-link-requires c κs = search needs
 
--- src/lib.rt:214:5
 set-instruction-link-requires : tie.Need-set-instruction-link-requires
 set-instruction-link-requires c κs = search needs
 
--- src/lib.rt:208:1
 same-length : tie.Need-same-length
 same-length c = search needs
 
--- src/lib.rt:208:1
 returns : tie.Need-returns
 returns c = search line-end
 

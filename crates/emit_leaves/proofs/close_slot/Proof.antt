@@ -9,27 +9,21 @@ use Rattle.emit_leaves.proofs.slot_link.Reads as slot-link-reads
 use Rattle.grammar.proofs.look.Reads as look-reads
 use Rattle.table_updates.proofs.set_slot_link.Reads as set-slot-link-reads
 
--- src/lib.rt:200:9
 skip-requires : tie.Need-skip-requires
 skip-requires c κs = search needs
 
--- src/lib.rt:201:9
 look-requires : tie.Need-look-requires
 look-requires c κs = search needs
 
--- src/lib.rt:202:9
 slot-link-requires : tie.Need-slot-link-requires
 slot-link-requires c κs = search needs
 
--- src/lib.rt:203:5
 set-slot-link-requires : tie.Need-set-slot-link-requires
 set-slot-link-requires c κs = search needs
 
--- src/lib.rt:197:1
 same-length : tie.Need-same-length
 same-length c = search needs
 
--- src/lib.rt:197:1
 returns : tie.Need-returns
 returns c = search slot-end
 

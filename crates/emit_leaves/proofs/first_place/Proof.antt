@@ -6,15 +6,12 @@ use Rattle.emit_leaves.proofs.first_place.Reads as reads
 use Rattle.emit_leaves.proofs.first_place.Lts as lts
 use Rattle.emit_steps.proofs.one_more.Reads as one-more-reads
 
--- src/lib.rt:21:9
 returns : tie.Need-returns
 returns c = search place-none
 
--- src/lib.rt:23:5
 one-more-requires : tie.Need-one-more-requires
 one-more-requires c κs = search needs
 
--- src/lib.rt:17:1
 returns-2 : tie.Need-returns-2
 returns-2 c = search place-next
 

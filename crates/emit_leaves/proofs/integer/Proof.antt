@@ -7,19 +7,15 @@ use Rattle.emit_leaves.proofs.integer.Lts as lts
 use Rattle.emit_steps.proofs.go_to.Reads as go-to-reads
 use Rattle.table_updates.proofs.set_expression.Reads as set-expression-reads
 
--- src/lib.rt:64:5
 set-expression-requires : tie.Need-set-expression-requires
 set-expression-requires c κs = search needs
 
--- src/lib.rt:65:5
 go-to-requires : tie.Need-go-to-requires
 go-to-requires c κs = search needs
 
--- src/lib.rt:60:1
 same-length : tie.Need-same-length
 same-length c = search needs
 
--- src/lib.rt:60:1
 returns : tie.Need-returns
 returns c = search integer-one
 

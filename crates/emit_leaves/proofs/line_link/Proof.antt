@@ -6,15 +6,12 @@ use Rattle.emit_leaves.proofs.line_link.Reads as reads
 use Rattle.emit_leaves.proofs.line_link.Lts as lts
 use Rattle.emit_steps.proofs.less.Reads as less-reads
 
--- src/lib.rt:31:9
 returns : tie.Need-returns
 returns c = search line-none
 
--- src/lib.rt:33:5
 less-requires : tie.Need-less-requires
 less-requires c κs = search needs
 
--- src/lib.rt:27:1
 returns-2 : tie.Need-returns-2
 returns-2 c = search line-next
 

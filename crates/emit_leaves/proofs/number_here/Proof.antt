@@ -7,15 +7,12 @@ use Rattle.emit_leaves.proofs.number_here.Reads as reads
 use Rattle.emit_leaves.proofs.number_here.Lts as lts
 use Rattle.emit_paths.proofs.name_number.Reads as name-number-reads
 
--- src/lib.rt:199:9
 returns : tie.Need-returns
 returns c = search no-number
 
--- src/lib.rt:201:5
 name-number-requires : tie.Need-name-number-requires
 name-number-requires c κs = search needs
 
--- src/lib.rt:185:1
 returns-2 : tie.Need-returns-2
 returns-2 c = search seen-number
 

@@ -11,35 +11,27 @@ use Rattle.grammar.proofs.look.Reads as look-reads
 use Rattle.table_updates.proofs.set_code_first.Reads as set-code-first-reads
 use Rattle.table_updates.proofs.set_expression.Reads as set-expression-reads
 
--- src/lib.rt:151:9
 pass-requires : tie.Need-pass-requires
 pass-requires c κs = search needs
 
--- src/lib.rt:152:9
 look-requires : tie.Need-look-requires
 look-requires c κs = search needs
 
--- src/lib.rt:153:9
 first-place-requires : tie.Need-first-place-requires
 first-place-requires c κs = search needs
 
--- src/lib.rt:154:5
 set-code-first-requires : tie.Need-set-code-first-requires
 set-code-first-requires c κs = search needs
 
--- src/lib.rt:155:5
 set-expression-requires : tie.Need-set-expression-requires
 set-expression-requires c κs = search needs
 
--- src/lib.rt:156:9
 one-code-requires : tie.Need-one-code-requires
 one-code-requires c κs = search needs
 
--- src/lib.rt:147:1
 same-length : tie.Need-same-length
 same-length c = search needs
 
--- src/lib.rt:147:1
 returns : tie.Need-returns
 returns c = search block-one
 

@@ -10,35 +10,27 @@ use Rattle.emit_steps.proofs.pass_two.Reads as pass-two-reads
 use Rattle.grammar.proofs.look.Reads as look-reads
 use Rattle.table_updates.proofs.set_expression.Reads as set-expression-reads
 
--- src/lib.rt:166:9
 returns : tie.Need-returns
 returns c = search frame-past
 
--- src/lib.rt:168:9
 pass-two-requires : tie.Need-pass-two-requires
 pass-two-requires c κs = search needs
 
--- src/lib.rt:169:9
 look-requires : tie.Need-look-requires
 look-requires c κs = search needs
 
--- src/lib.rt:170:9
 slot-link-requires : tie.Need-slot-link-requires
 slot-link-requires c κs = search needs
 
--- src/lib.rt:171:5
 set-expression-requires : tie.Need-set-expression-requires
 set-expression-requires c κs = search needs
 
--- src/lib.rt:172:9
 go-to-requires : tie.Need-go-to-requires
 go-to-requires c κs = search needs
 
--- src/lib.rt:161:1
 same-length : tie.Need-same-length
 same-length c = search needs
 
--- src/lib.rt:161:1
 returns-2 : tie.Need-returns-2
 returns-2 c = search frame-one
 

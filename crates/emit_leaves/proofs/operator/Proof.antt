@@ -9,27 +9,21 @@ use Rattle.emit_steps.proofs.less.Reads as less-reads
 use Rattle.grammar.proofs.look.Reads as look-reads
 use Rattle.table_updates.proofs.set_expression.Reads as set-expression-reads
 
--- src/lib.rt:81:9
 look-requires : tie.Need-look-requires
 look-requires c κs = search needs
 
--- src/lib.rt:82:9
 less-requires : tie.Need-less-requires
 less-requires c κs = search needs
 
--- src/lib.rt:83:5
 set-expression-requires : tie.Need-set-expression-requires
 set-expression-requires c κs = search needs
 
--- src/lib.rt:84:5
 go-to-requires : tie.Need-go-to-requires
 go-to-requires c κs = search needs
 
--- src/lib.rt:78:1
 same-length : tie.Need-same-length
 same-length c = search needs
 
--- src/lib.rt:78:1
 returns : tie.Need-returns
 returns c = search operator-one
 

@@ -7,35 +7,27 @@ use Rattle.emit_leaves.proofs.operator_after.Lts as lts
 use Rattle.grammar.proofs.base_from.Reads as base-from-reads
 use Rattle.grammar.proofs.kind_at.Reads as kind-at-reads
 
--- src/lib.rt:92:9
 base-from-requires : tie.Need-base-from-requires
 base-from-requires c κs = search needs
 
--- src/lib.rt:93:21
 enum-known-x : tie.Need-enum-known-x
 enum-known-x c = search needs
 
--- src/lib.rt:94:9
 enum-told : tie.Need-enum-told
 enum-told c = search needs
 
--- src/lib.rt:94:9
 returns : tie.Need-returns
 returns c = search after-none
 
--- src/lib.rt:96:9
 kind-at-requires : tie.Need-kind-at-requires
 kind-at-requires c κs = search needs
 
--- src/lib.rt:98:9
 returns-2 : tie.Need-returns-2
 returns-2 c = search after-low
 
--- src/lib.rt:101:9
 returns-3 : tie.Need-returns-3
 returns-3 c = search after-high
 
--- src/lib.rt:88:1
 returns-4 : tie.Need-returns-4
 returns-4 c = search after-one
 

@@ -7,15 +7,12 @@ use Rattle.emit_leaves.proofs.skip.Lts as lts
 use Rattle.emit_steps.proofs.go_to.Reads as go-to-reads
 use Rattle.emit_steps.proofs.pass.Reads as pass-reads
 
--- src/lib.rt:112:9
 pass-requires : tie.Need-pass-requires
 pass-requires c κs = search needs
 
--- src/lib.rt:113:5
 go-to-requires : tie.Need-go-to-requires
 go-to-requires c κs = search needs
 
--- src/lib.rt:109:1
 returns : tie.Need-returns
 returns c = search skip-one
 

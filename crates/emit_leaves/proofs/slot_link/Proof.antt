@@ -6,15 +6,12 @@ use Rattle.emit_leaves.proofs.slot_link.Reads as reads
 use Rattle.emit_leaves.proofs.slot_link.Lts as lts
 use Rattle.emit_steps.proofs.less.Reads as less-reads
 
--- src/lib.rt:41:9
 less-requires : tie.Need-less-requires
 less-requires c κs = search needs
 
--- src/lib.rt:41:9
 returns : tie.Need-returns
 returns c = search slot-next
 
--- src/lib.rt:37:1
 returns-2 : tie.Need-returns-2
 returns-2 c = search slot-none
 

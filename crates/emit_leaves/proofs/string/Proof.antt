@@ -7,19 +7,15 @@ use Rattle.emit_leaves.proofs.string.Lts as lts
 use Rattle.emit_steps.proofs.one_string.Reads as one-string-reads
 use Rattle.table_updates.proofs.set_expression.Reads as set-expression-reads
 
--- src/lib.rt:73:5
 set-expression-requires : tie.Need-set-expression-requires
 set-expression-requires c κs = search needs
 
--- src/lib.rt:74:5
 one-string-requires : tie.Need-one-string-requires
 one-string-requires c κs = search needs
 
--- src/lib.rt:69:1
 same-length : tie.Need-same-length
 same-length c = search needs
 
--- src/lib.rt:69:1
 returns : tie.Need-returns
 returns c = search string-one
 

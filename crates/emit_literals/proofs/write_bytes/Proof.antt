@@ -17,47 +17,36 @@ Inv-loop l₀ k w i₀ l i = Writing l₀ k w l i
 abbrev μ-loop : tie.MeasureT-loop
 μ-loop l₀ k w i₀ l i = length w - i
 
--- src/lib.rt:15:5
 loop-holds : tie.Need-loop-holds Inv-loop μ-loop
 loop-holds c = search writing-start
 
--- src/lib.rt:16:13
 byte-requires : tie.Need-byte-requires Inv-loop μ-loop
 byte-requires c κs = search needs
 
--- src/lib.rt:17:33
 wide-requires : tie.Need-wide-requires Inv-loop μ-loop
 wide-requires c κs = search needs
 
--- src/lib.rt:17:28
 mul-set-byte : tie.Need-mul-set-byte Inv-loop μ-loop
 mul-set-byte c = omega arith
 
--- src/lib.rt:17:28
 add-set-byte : tie.Need-add-set-byte Inv-loop μ-loop
 add-set-byte c = omega arith
 
--- src/lib.rt:17:9
 set-byte-requires : tie.Need-set-byte-requires Inv-loop μ-loop
 set-byte-requires c κs = search needs
 
--- src/lib.rt:18:9
 add-i : tie.Need-add-i Inv-loop μ-loop
 add-i c = omega arith
 
--- src/lib.rt:15:5
 loop-less : tie.Need-loop-less Inv-loop μ-loop
 loop-less c = omega arith
 
--- src/lib.rt:15:5
 loop-again : tie.Need-loop-again Inv-loop μ-loop
 loop-again c = search writing-again
 
--- src/lib.rt:10:1
 same-length : tie.Need-same-length Inv-loop μ-loop
 same-length c = search needs
 
--- src/lib.rt:10:1
 returns : tie.Need-returns Inv-loop μ-loop
 returns c = search writing-done
 

@@ -17,55 +17,42 @@ Inv-loop p₀ k w i₀ p i = Writing p₀ k w p i
 abbrev μ-loop : tie.MeasureT-loop
 μ-loop p₀ k w i₀ p i = length w - i
 
--- src/lib.rt:93:5
 loop-holds : tie.Need-loop-holds Inv-loop μ-loop
 loop-holds c = search writing-start
 
--- src/lib.rt:94:13
 byte-requires : tie.Need-byte-requires Inv-loop μ-loop
 byte-requires c κs = search needs
 
--- src/lib.rt:95:38
 wide-requires : tie.Need-wide-requires Inv-loop μ-loop
 wide-requires c κs = search needs
 
--- src/lib.rt:95:33
 mul-set-word : tie.Need-mul-set-word Inv-loop μ-loop
 mul-set-word c = omega arith
 
--- src/lib.rt:95:28
 add-set-word : tie.Need-add-set-word Inv-loop μ-loop
 add-set-word c = omega arith
 
--- src/lib.rt:95:28
 add-set-word-2 : tie.Need-add-set-word-2 Inv-loop μ-loop
 add-set-word-2 c = omega arith
 
--- src/lib.rt:95:51
 cast-set-word : tie.Need-cast-set-word Inv-loop μ-loop
 cast-set-word c = search needs
 
--- src/lib.rt:95:9
 set-word-requires : tie.Need-set-word-requires Inv-loop μ-loop
 set-word-requires c κs = search needs
 
--- src/lib.rt:96:9
 add-i : tie.Need-add-i Inv-loop μ-loop
 add-i c = omega arith
 
--- src/lib.rt:93:5
 loop-less : tie.Need-loop-less Inv-loop μ-loop
 loop-less c = omega arith
 
--- src/lib.rt:93:5
 loop-again : tie.Need-loop-again Inv-loop μ-loop
 loop-again c = search writing-again
 
--- src/lib.rt:88:1
 same-length : tie.Need-same-length Inv-loop μ-loop
 same-length c = search needs
 
--- src/lib.rt:88:1
 returns : tie.Need-returns Inv-loop μ-loop
 returns c = search writing-done
 

@@ -9,35 +9,27 @@ use Rattle.names.proofs.place.Reads as place-reads
 use Rattle.token.proofs.token_bytes.Reads as token-bytes-reads
 use Rattle.words.proofs.wide.Reads as wide-reads
 
--- src/lib.rt:114:34
 wide-requires : tie.Need-wide-requires
 wide-requires c κs = search needs
 
--- src/lib.rt:114:9
 place-requires : tie.Need-place-requires
 place-requires c κs = search needs
 
--- src/lib.rt:115:32
 wide-requires-2 : tie.Need-wide-requires-2
 wide-requires-2 c κs = search needs
 
--- src/lib.rt:115:9
 place-requires-2 : tie.Need-place-requires-2
 place-requires-2 c κs = search needs
 
--- src/lib.rt:116:9
 token-bytes-requires : tie.Need-token-bytes-requires
 token-bytes-requires c κs = search needs
 
--- src/lib.rt:117:5
 write-name-requires : tie.Need-write-name-requires
 write-name-requires c κs = search kept-short
 
--- src/lib.rt:110:1
 same-length : tie.Need-same-length
 same-length c = search needs
 
--- src/lib.rt:110:1
 returns : tie.Need-returns
 returns c = search kept-written
 

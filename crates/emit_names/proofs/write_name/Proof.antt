@@ -7,23 +7,18 @@ use Rattle.emit_names.proofs.write_name.Lts as lts
 use Rattle.emit_names.proofs.write_bytes.Reads as write-bytes-reads
 use Rattle.table_updates.proofs.set_name_length.Reads as set-name-length-reads
 
--- src/lib.rt:105:5
 write-bytes-requires : tie.Need-write-bytes-requires
 write-bytes-requires c κs = search needs
 
--- src/lib.rt:106:42
 cast-set-name-length : tie.Need-cast-set-name-length
 cast-set-name-length c = search needs
 
--- src/lib.rt:106:5
 set-name-length-requires : tie.Need-set-name-length-requires
 set-name-length-requires c κs = search needs
 
--- src/lib.rt:101:1
 same-length : tie.Need-same-length
 same-length c = search needs
 
--- src/lib.rt:101:1
 returns : tie.Need-returns
 returns c = search name-written
 

@@ -14,31 +14,24 @@ Inv-loop s begins ends n p₀ k₀ p k = Listing s begins ends p₀ n p k
 abbrev μ-loop : tie.MeasureT-loop
 μ-loop s begins ends n p₀ k₀ p k = n - k
 
--- src/lib.rt:126:5
 loop-holds : tie.Need-loop-holds Inv-loop μ-loop
 loop-holds c = search listing-start
 
--- src/lib.rt:127:9
 write-kept-requires : tie.Need-write-kept-requires Inv-loop μ-loop
 write-kept-requires c κs = search needs
 
--- src/lib.rt:128:9
 add-k : tie.Need-add-k Inv-loop μ-loop
 add-k c = omega arith
 
--- src/lib.rt:126:5
 loop-less : tie.Need-loop-less Inv-loop μ-loop
 loop-less c = omega arith
 
--- src/lib.rt:126:5
 loop-again : tie.Need-loop-again Inv-loop μ-loop
 loop-again c = search listing-again
 
--- src/lib.rt:121:1
 same-length : tie.Need-same-length Inv-loop μ-loop
 same-length c = search needs
 
--- src/lib.rt:121:1
 returns : tie.Need-returns Inv-loop μ-loop
 returns c = search listing-done
 

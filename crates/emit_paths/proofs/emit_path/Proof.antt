@@ -8,31 +8,24 @@ use Rattle.emit_paths.proofs.arrive.Reads as arrive-reads
 use Rattle.emit_paths.proofs.dotted.Reads as dotted-reads
 use Rattle.emit_paths.proofs.up_path.Reads as up-path-reads
 
--- src/lib.rt:166:13
 dotted-requires : tie.Need-dotted-requires
 dotted-requires c κs = search needs
 
--- src/lib.rt:167:9
 arrive-requires : tie.Need-arrive-requires
 arrive-requires c κs = search needs
 
--- src/lib.rt:167:9
 same-length : tie.Need-same-length
 same-length c = search needs
 
--- src/lib.rt:167:9
 returns : tie.Need-returns
 returns c = search path-self
 
--- src/lib.rt:169:5
 up-path-requires : tie.Need-up-path-requires
 up-path-requires c κs = search needs
 
--- src/lib.rt:150:1
 same-length-2 : tie.Need-same-length-2
 same-length-2 c = search needs
 
--- src/lib.rt:150:1
 returns-2 : tie.Need-returns-2
 returns-2 c = search path-up
 

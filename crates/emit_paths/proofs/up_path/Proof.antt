@@ -9,27 +9,21 @@ use Rattle.emit_paths.proofs.dotted.Reads as dotted-reads
 use Rattle.emit_paths.proofs.holder.Reads as holder-reads
 use Rattle.emit_paths.proofs.ups.Reads as ups-reads
 
--- src/lib.rt:143:9
 ups-requires : tie.Need-ups-requires
 ups-requires c κs = search needs
 
--- src/lib.rt:144:9
 holder-requires : tie.Need-holder-requires
 holder-requires c κs = search needs
 
--- src/lib.rt:145:9
 dotted-requires : tie.Need-dotted-requires
 dotted-requires c κs = search needs
 
--- src/lib.rt:146:5
 arrive-requires : tie.Need-arrive-requires
 arrive-requires c κs = search needs
 
--- src/lib.rt:128:1
 same-length : tie.Need-same-length
 same-length c = search needs
 
--- src/lib.rt:128:1
 returns : tie.Need-returns
 returns c =
     up-emits _ _ _ _ _ _ _ _ (c .before .before .before .before .before .before .before .before .before .before .before .before .before .before .pre .1) _ (c .before .before .before .before .before .before .before .before .before .ups .ensures) _ _ (c .before .before .before .before .before .before .before .holder .ensures) _ _ (c .before .before .before .dotted .ensures) _ (c .arrive .ensures)

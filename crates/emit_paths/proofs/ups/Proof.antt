@@ -16,31 +16,24 @@ Inv-loop c s from depth at₀ d₀ at d = UpsLeads s at₀ d₀ at d
 abbrev μ-loop : tie.MeasureT-loop
 μ-loop c s from depth at₀ d₀ at d = length s - at
 
--- src/lib.rt:51:5
 loop-holds : tie.Need-loop-holds Inv-loop μ-loop
 loop-holds c = search ups-start
 
--- src/lib.rt:52:13
 pass-two-requires : tie.Need-pass-two-requires Inv-loop μ-loop
 pass-two-requires c κs = search needs
 
--- src/lib.rt:54:13
 returns : tie.Need-returns Inv-loop μ-loop
 returns c = search ups-none
 
--- src/lib.rt:56:9
 less-requires : tie.Need-less-requires Inv-loop μ-loop
 less-requires c κs = search needs
 
--- src/lib.rt:51:5
 loop-less : tie.Need-loop-less Inv-loop μ-loop
 loop-less c = omega arith
 
--- src/lib.rt:51:5
 loop-again : tie.Need-loop-again Inv-loop μ-loop
 loop-again c = search ups-again
 
--- src/lib.rt:46:1
 returns-2 : tie.Need-returns-2 Inv-loop μ-loop
 returns-2 c = search ups-end
 

@@ -10,31 +10,24 @@ use Rattle.table_updates.proofs.set_instructions.Reads as set-instructions-read
 use Rattle.table_updates.proofs.set_path_names.Reads as set-path-names-reads
 use Rattle.table_updates.proofs.set_program_slots.Reads as set-program-slots-reads
 
--- src/lib.rt:23:5
 set-expressions-requires : tie.Need-set-expressions-requires
 set-expressions-requires c κs = search needs
 
--- src/lib.rt:24:5
 set-instructions-requires : tie.Need-set-instructions-requires
 set-instructions-requires c κs = search needs
 
--- src/lib.rt:25:5
 set-codes-requires : tie.Need-set-codes-requires
 set-codes-requires c κs = search needs
 
--- src/lib.rt:26:5
 set-path-names-requires : tie.Need-set-path-names-requires
 set-path-names-requires c κs = search needs
 
--- src/lib.rt:27:5
 set-program-slots-requires : tie.Need-set-program-slots-requires
 set-program-slots-requires c κs = search needs
 
--- src/lib.rt:20:1
 same-length : tie.Need-same-length
 same-length c = search needs
 
--- src/lib.rt:20:1
 returns : tie.Need-returns
 returns c = search counts-done
 

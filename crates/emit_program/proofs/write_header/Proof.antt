@@ -9,27 +9,21 @@ use Rattle.emit_program.proofs.write_limits.Reads as write-limits-reads
 use Rattle.emit_program.proofs.write_start.Reads as write-start-reads
 use Rattle.emit_tree.proofs.first_slot_place.Reads as first-slot-place-reads
 
--- src/lib.rt:54:5
 write-limits-requires : tie.Need-write-limits-requires
 write-limits-requires c κs = search needs
 
--- src/lib.rt:55:9
 first-slot-place-requires : tie.Need-first-slot-place-requires
 first-slot-place-requires c κs = search needs
 
--- src/lib.rt:56:5
 write-counts-requires : tie.Need-write-counts-requires
 write-counts-requires c κs = search needs
 
--- src/lib.rt:57:5
 write-start-requires : tie.Need-write-start-requires
 write-start-requires c κs = search needs
 
--- src/lib.rt:41:1
 same-length : tie.Need-same-length
 same-length c = search needs
 
--- src/lib.rt:41:1
 returns : tie.Need-returns
 returns c = search header-done
 

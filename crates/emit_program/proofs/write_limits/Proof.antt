@@ -9,27 +9,21 @@ use Rattle.table_updates.proofs.set_literals.Reads as set-literals-reads
 use Rattle.table_updates.proofs.set_names.Reads as set-names-reads
 use Rattle.table_updates.proofs.set_text_limit.Reads as set-text-limit-reads
 
--- src/lib.rt:13:5
 set-frame-limit-requires : tie.Need-set-frame-limit-requires
 set-frame-limit-requires c κs = search needs
 
--- src/lib.rt:14:5
 set-text-limit-requires : tie.Need-set-text-limit-requires
 set-text-limit-requires c κs = search needs
 
--- src/lib.rt:15:5
 set-names-requires : tie.Need-set-names-requires
 set-names-requires c κs = search needs
 
--- src/lib.rt:16:5
 set-literals-requires : tie.Need-set-literals-requires
 set-literals-requires c κs = search needs
 
--- src/lib.rt:10:1
 same-length : tie.Need-same-length
 same-length c = search needs
 
--- src/lib.rt:10:1
 returns : tie.Need-returns
 returns c = search limits-done
 

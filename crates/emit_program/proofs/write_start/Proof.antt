@@ -8,35 +8,27 @@ use Rattle.names.proofs.number_of.Reads as number-of-reads
 use Rattle.start_code.proofs.start_code.Reads as start-code-reads
 use Rattle.table_updates.proofs.set_start.Reads as set-start-reads
 
--- src/lib.rt:34:62
 slice-aggregate-number-of : tie.Need-slice-aggregate-number-of
 slice-aggregate-number-of c = search needs
 
--- src/lib.rt:34:9
 number-of-requires : tie.Need-number-of-requires
 number-of-requires c κs = search needs
 
--- src/lib.rt:35:63
 slice-aggregate-number-of-2 : tie.Need-slice-aggregate-number-of-2
 slice-aggregate-number-of-2 c = search needs
 
--- src/lib.rt:35:9
 number-of-requires-2 : tie.Need-number-of-requires-2
 number-of-requires-2 c κs = search needs
 
--- src/lib.rt:36:9
 start-code-requires : tie.Need-start-code-requires
 start-code-requires c κs = search needs
 
--- src/lib.rt:37:5
 set-start-requires : tie.Need-set-start-requires
 set-start-requires c κs = search needs
 
--- src/lib.rt:31:1
 same-length : tie.Need-same-length
 same-length c = search needs
 
--- src/lib.rt:31:1
 returns : tie.Need-returns
 returns c = search start-done
 

@@ -6,11 +6,9 @@ use Rattle.emit_steps.proofs.one_code.Reads as reads
 use Rattle.emit_steps.proofs.one_code.Lts as lts
 use Rattle.emit_steps.proofs.one_more.Reads as one-more-reads
 
--- src/lib.rt:122:9
 one-more-requires : tie.Need-one-more-requires
 one-more-requires c κs = search needs
 
--- src/lib.rt:119:1
 returns : tie.Need-returns
 returns c = search code-taken
 

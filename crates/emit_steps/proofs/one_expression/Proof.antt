@@ -6,11 +6,9 @@ use Rattle.emit_steps.proofs.one_expression.Reads as reads
 use Rattle.emit_steps.proofs.one_expression.Lts as lts
 use Rattle.emit_steps.proofs.one_more.Reads as one-more-reads
 
--- src/lib.rt:66:9
 one-more-requires : tie.Need-one-more-requires
 one-more-requires c κs = search needs
 
--- src/lib.rt:63:1
 returns : tie.Need-returns
 returns c = search expression-taken
 

@@ -6,11 +6,9 @@ use Rattle.emit_steps.proofs.one_instruction.Reads as reads
 use Rattle.emit_steps.proofs.one_instruction.Lts as lts
 use Rattle.emit_steps.proofs.one_more.Reads as one-more-reads
 
--- src/lib.rt:80:9
 one-more-requires : tie.Need-one-more-requires
 one-more-requires c κs = search needs
 
--- src/lib.rt:77:1
 returns : tie.Need-returns
 returns c = search instruction-taken
 

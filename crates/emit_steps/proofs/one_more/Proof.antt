@@ -5,15 +5,12 @@ use Rattle.emit_steps.proofs.one_more.Tie as tie
 use Rattle.emit_steps.proofs.one_more.Reads as reads
 use Rattle.emit_steps.proofs.one_more.Lts as lts
 
--- src/lib.rt:33:16
 add-result : tie.Need-add-result
 add-result c = search needs
 
--- src/lib.rt:33:9
 returns : tie.Need-returns
 returns c = search more-one
 
--- src/lib.rt:29:1
 returns-2 : tie.Need-returns-2
 returns-2 c = search more-none
 

@@ -6,11 +6,9 @@ use Rattle.emit_steps.proofs.one_string.Reads as reads
 use Rattle.emit_steps.proofs.one_string.Lts as lts
 use Rattle.emit_steps.proofs.one_more.Reads as one-more-reads
 
--- src/lib.rt:108:9
 one-more-requires : tie.Need-one-more-requires
 one-more-requires c κs = search needs
 
--- src/lib.rt:105:1
 returns : tie.Need-returns
 returns c = search string-taken
 

@@ -6,23 +6,18 @@ use Rattle.emit_steps.proofs.pass.Reads as reads
 use Rattle.emit_steps.proofs.pass.Lts as lts
 use Rattle.token_cache.proofs.token_in.Reads as token-in-reads
 
--- src/lib.rt:166:9
 token-in-requires : tie.Need-token-in-requires
 token-in-requires c κs = search needs
 
--- src/lib.rt:167:26
 enum-known-t : tie.Need-enum-known-t
 enum-known-t c = search needs
 
--- src/lib.rt:168:9
 returns : tie.Need-returns
 returns c = search pass-none
 
--- src/lib.rt:171:9
 returns-2 : tie.Need-returns-2
 returns-2 c = search pass-one
 
--- src/lib.rt:163:1
 returns-3 : tie.Need-returns-3
 returns-3 c = search pass-other
 

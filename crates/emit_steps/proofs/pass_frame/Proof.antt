@@ -7,23 +7,18 @@ use Rattle.emit_steps.proofs.pass_frame.Lts as lts
 use Rattle.emit_steps.proofs.pass.Reads as pass-reads
 use Rattle.emit_steps.proofs.pass_two.Reads as pass-two-reads
 
--- src/lib.rt:195:9
 pass-two-requires : tie.Need-pass-two-requires
 pass-two-requires c κs = search needs
 
--- src/lib.rt:197:9
 returns : tie.Need-returns
 returns c = search frame-none
 
--- src/lib.rt:199:9
 pass-requires : tie.Need-pass-requires
 pass-requires c κs = search needs
 
--- src/lib.rt:201:9
 returns-2 : tie.Need-returns-2
 returns-2 c = search frame-half
 
--- src/lib.rt:192:1
 returns-3 : tie.Need-returns-3
 returns-3 c = search frame-all
 

@@ -6,23 +6,18 @@ use Rattle.emit_steps.proofs.pass_two.Reads as reads
 use Rattle.emit_steps.proofs.pass_two.Lts as lts
 use Rattle.emit_steps.proofs.pass.Reads as pass-reads
 
--- src/lib.rt:180:9
 pass-requires : tie.Need-pass-requires
 pass-requires c κs = search needs
 
--- src/lib.rt:182:9
 returns : tie.Need-returns
 returns c = search two-none
 
--- src/lib.rt:184:9
 pass-requires-2 : tie.Need-pass-requires-2
 pass-requires-2 c κs = search needs
 
--- src/lib.rt:186:9
 returns-2 : tie.Need-returns-2
 returns-2 c = search two-half
 
--- src/lib.rt:177:1
 returns-3 : tie.Need-returns-3
 returns-3 c = search two-both
 

@@ -6,31 +6,24 @@ use Rattle.emit_steps.proofs.within_slot.Reads as reads
 use Rattle.emit_steps.proofs.within_slot.Lts as lts
 use Rattle.words.proofs.wide.Reads as wide-reads
 
--- src/lib.rt:140:9
 returns : tie.Need-returns
 returns c = search slot-in-code
 
--- src/lib.rt:145:9
 returns-2 : tie.Need-returns-2
 returns-2 c = search slot-deep
 
--- src/lib.rt:147:9
 wide-requires : tie.Need-wide-requires
 wide-requires c κs = search needs
 
--- src/lib.rt:148:5
 mul-names : tie.Need-mul-names
 mul-names c = search needs
 
--- src/lib.rt:148:5
 array-write-names : tie.Need-array-write-names
 array-write-names c = search needs
 
--- src/lib.rt:149:36
 add-t10 : tie.Need-add-t10
 add-t10 c = search needs
 
--- src/lib.rt:136:1
 returns-3 : tie.Need-returns-3
 returns-3 c = search slot-deeper
 

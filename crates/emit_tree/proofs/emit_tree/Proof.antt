@@ -8,23 +8,18 @@ use Rattle.emit_steps.proofs.pass_frame.Reads as pass-frame-reads
 use Rattle.emit_tree.proofs.slots.Reads as slots-reads
 use Rattle.grammar.proofs.look.Reads as look-reads
 
--- src/lib.rt:429:9
 pass-frame-requires : tie.Need-pass-frame-requires
 pass-frame-requires c κs = search needs
 
--- src/lib.rt:443:9
 look-requires : tie.Need-look-requires
 look-requires c κs = search needs
 
--- src/lib.rt:444:5
 slots-requires : tie.Need-slots-requires
 slots-requires c κs = search needs
 
--- src/lib.rt:426:1
 same-length : tie.Need-same-length
 same-length c = search needs
 
--- src/lib.rt:426:1
 returns : tie.Need-returns
 returns c = search tree-done
 

@@ -7,19 +7,15 @@ use Rattle.emit_tree.proofs.first_slot_place.Lts as lts
 use Rattle.emit_steps.proofs.pass_frame.Reads as pass-frame-reads
 use Rattle.grammar.proofs.kind_at.Reads as kind-at-reads
 
--- src/lib.rt:403:9
 pass-frame-requires : tie.Need-pass-frame-requires
 pass-frame-requires c κs = search needs
 
--- src/lib.rt:404:9
 kind-at-requires : tie.Need-kind-at-requires
 kind-at-requires c κs = search needs
 
--- src/lib.rt:406:9
 returns : tie.Need-returns
 returns c = search first-one
 
--- src/lib.rt:400:1
 returns-2 : tie.Need-returns-2
 returns-2 c = search first-none
 

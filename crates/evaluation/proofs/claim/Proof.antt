@@ -7,19 +7,15 @@ use Rattle.evaluation.proofs.claim.Lts as lts
 use Rattle.allocation.proofs.lowest_frame.Reads as lowest-frame-reads
 use Rattle.heap.proofs.take_frame.Reads as take-frame-reads
 
--- src/lib.rt:10:9
 lowest-frame-requires : tie.Need-lowest-frame-requires
 lowest-frame-requires c κs = search needs
 
--- src/lib.rt:11:5
 take-frame-requires : tie.Need-take-frame-requires
 take-frame-requires c κs = search needs
 
--- src/lib.rt:7:1
 same-length : tie.Need-same-length
 same-length c = search needs
 
--- src/lib.rt:7:1
 returns : tie.Need-returns
 returns c = search claim-done
 

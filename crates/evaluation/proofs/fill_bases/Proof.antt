@@ -17,55 +17,42 @@ Inv-loop p h₀ f from z₀ h z = FillingBases p f from h₀ h z
 abbrev μ-loop : tie.MeasureT-loop
 μ-loop p h₀ f from z₀ h z = slots-left z
 
--- src/lib.rt:86:5
 loop-holds : tie.Need-loop-holds Inv-loop μ-loop
 loop-holds c = search bases-start
 
--- src/lib.rt:87:17
 sub-y : tie.Need-sub-y Inv-loop μ-loop
 sub-y c = omega arith
 
--- src/lib.rt:88:17
 expression-kind-requires : tie.Need-expression-kind-requires Inv-loop μ-loop
 expression-kind-requires c κs = search needs
 
--- src/lib.rt:89:13
 same-length : tie.Need-same-length Inv-loop μ-loop
 same-length c = search bases-size
 
--- src/lib.rt:89:13
 returns : tie.Need-returns Inv-loop μ-loop
 returns c = search bases-end
 
--- src/lib.rt:91:13
 given-requires : tie.Need-given-requires Inv-loop μ-loop
 given-requires c κs = search needs
 
--- src/lib.rt:92:30
 slot-name-requires : tie.Need-slot-name-requires Inv-loop μ-loop
 slot-name-requires c κs = search needs
 
--- src/lib.rt:92:9
 add-slot-requires : tie.Need-add-slot-requires Inv-loop μ-loop
 add-slot-requires c κs = search needs
 
--- src/lib.rt:93:9
 slot-after-requires : tie.Need-slot-after-requires Inv-loop μ-loop
 slot-after-requires c κs = search needs
 
--- src/lib.rt:86:5
 loop-less : tie.Need-loop-less Inv-loop μ-loop
 loop-less c = search slots-fall
 
--- src/lib.rt:86:5
 loop-again : tie.Need-loop-again Inv-loop μ-loop
 loop-again c = search bases-again
 
--- src/lib.rt:82:1
 same-length-2 : tie.Need-same-length-2 Inv-loop μ-loop
 same-length-2 c = search bases-size
 
--- src/lib.rt:82:1
 returns-2 : tie.Need-returns-2 Inv-loop μ-loop
 returns-2 c = search bases-done
 

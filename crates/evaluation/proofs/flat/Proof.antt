@@ -8,39 +8,30 @@ use Rattle.producing.proofs.operation.Reads as operation-reads
 use Rattle.producing.proofs.read.Reads as read-reads
 use Rattle.tables.proofs.expression_at.Reads as expression-at-reads
 
--- src/lib.rt:20:48
 expression-at-requires : tie.Need-expression-at-requires
 expression-at-requires c κs = search needs
 
--- src/lib.rt:20:34
 enum-known-kind : tie.Need-enum-known-kind
 enum-known-kind c = search needs
 
--- src/lib.rt:21:9
 read-requires : tie.Need-read-requires
 read-requires c κs = search needs
 
--- src/lib.rt:21:9
 same-length : tie.Need-same-length
 same-length c = search needs
 
--- src/lib.rt:21:9
 returns : tie.Need-returns
 returns c = search flat-read
 
--- src/lib.rt:23:5
 operation-requires : tie.Need-operation-requires
 operation-requires c κs = (search flat-can, search needs)
 
--- src/lib.rt:16:1
 same-length-2 : tie.Need-same-length-2
 same-length-2 c = search needs
 
--- src/lib.rt:16:1
 same-length-3 : tie.Need-same-length-3
 same-length-3 c = search needs
 
--- src/lib.rt:16:1
 returns-2 : tie.Need-returns-2
 returns-2 c = search flat-operation
 

@@ -9,19 +9,15 @@ use Rattle.clearing.proofs.clear_words.Reads as clear-words-reads
 use Rattle.emit_program.proofs.emit.Reads as emit-reads
 use Rattle.start_state.proofs.start.Reads as start-reads
 
--- src/lib.rt:30:5
 emit-requires : tie.Need-emit-requires
 emit-requires c κs = (search needs, (search needs, (search needs, (search needs, search install-can-emit))))
 
--- src/lib.rt:44:5
 clear-words-requires : tie.Need-clear-words-requires
 clear-words-requires c κs = search needs
 
--- src/lib.rt:45:5
 clear-bytes-requires : tie.Need-clear-bytes-requires
 clear-bytes-requires c κs = search needs
 
--- src/lib.rt:46:5
 start-requires : tie.Need-start-requires
 start-requires c κs =
     let texts = c .before .before .before .before .before .before in
@@ -30,23 +26,18 @@ start-requires c κs =
     let begin = program .before .before .before .before .before .before .before .before .before .before .before in
     install-can-start _ _ _ _ _ _ _ (begin .pre .1 .1) _ _ _ _ (program .emit .ensures) (words .clear-words .ensures) (texts .clear-bytes .ensures)
 
--- src/lib.rt:9:1
 same-length : tie.Need-same-length
 same-length c = search needs
 
--- src/lib.rt:9:1
 same-length-2 : tie.Need-same-length-2
 same-length-2 c = search needs
 
--- src/lib.rt:9:1
 same-length-3 : tie.Need-same-length-3
 same-length-3 c = search needs
 
--- src/lib.rt:9:1
 same-length-4 : tie.Need-same-length-4
 same-length-4 c = search needs
 
--- src/lib.rt:9:1
 returns : tie.Need-returns
 returns c = search (install-done, c .before .before .before .before .before .before .before .before .before .before .before .before .before .before .before .before .before .before .before .before .before .before .before .before .before .before .before .before .before .before .before .before .pre .1 .1)
 

@@ -8,65 +8,51 @@ use Rattle.load.proofs.load.Lts as lts
 use Rattle.check_source.proofs.check.Reads as check-reads
 use Rattle.load.proofs.install.Reads as install-reads
 
--- src/lib.rt:64:9
 slice-aggregate-check : tie.Need-slice-aggregate-check
 slice-aggregate-check c = search needs
 
--- src/lib.rt:65:9
 slice-aggregate-check-2 : tie.Need-slice-aggregate-check-2
 slice-aggregate-check-2 c = search needs
 
--- src/lib.rt:67:9
 slice-aggregate-check-3 : tie.Need-slice-aggregate-check-3
 slice-aggregate-check-3 c = search needs
 
--- src/lib.rt:57:9
 check-requires : tie.Need-check-requires
 check-requires c κs = (search fresh, (search fresh-unnoted, (search needs, search needs)))
 
 enum-told : tie.Need-enum-told
 enum-told c = search needs
 
--- src/lib.rt:74:9
 returns : tie.Need-returns
 returns c = (search refused-exact, search refused-means)
 
--- src/lib.rt:77:21
 slice-aggregate-install : tie.Need-slice-aggregate-install
 slice-aggregate-install c = search needs
 
--- src/lib.rt:77:30
 slice-aggregate-install-2 : tie.Need-slice-aggregate-install-2
 slice-aggregate-install-2 c = search needs
 
--- src/lib.rt:77:52
 slice-aggregate-install-3 : tie.Need-slice-aggregate-install-3
 slice-aggregate-install-3 c = search needs
 
--- src/lib.rt:76:5
 install-requires : tie.Need-install-requires
 install-requires c κs = (
   search needs,
   (search (loaded-kept, c .before .before .before .before .before .before .before .before .before .before .before .before .before .before .check .ensures .1 .1, c .before .before .before .before .before .before .before .before .before .enum-told .given), load-can-install _ _ _ _ _ _ _ (c .before .before .before .before .before .before .before .before .before .before .before .before .before .before .check .result) (c .before .before .before .before .before .before .before .before .before .before .before .before .before .before .check .ensures .0) (search (c .before .before .before .before .before .before .before .before .before .enum-told .given))),
 )
 
--- src/lib.rt:38:1
 same-length : tie.Need-same-length
 same-length c = search needs
 
--- src/lib.rt:38:1
 same-length-2 : tie.Need-same-length-2
 same-length-2 c = search needs
 
--- src/lib.rt:38:1
 same-length-3 : tie.Need-same-length-3
 same-length-3 c = search needs
 
--- src/lib.rt:38:1
 same-length-4 : tie.Need-same-length-4
 same-length-4 c = search needs
 
--- src/lib.rt:38:1
 returns-2 : tie.Need-returns-2
 returns-2 c = (search loaded-exact, search loaded-means)
 

@@ -16,47 +16,36 @@ Inv-loop s a p w h₀ i₀ h i = Hashing w h i
 abbrev μ-loop : tie.MeasureT-loop
 μ-loop s a p w h₀ i₀ h i = length w - i
 
--- src/lib.rt:62:9
 token-bytes-requires : tie.Need-token-bytes-requires Inv-loop μ-loop
 token-bytes-requires c κs = search needs
 
--- src/lib.rt:65:5
 loop-holds : tie.Need-loop-holds Inv-loop μ-loop
 loop-holds c = search hashing-start
 
--- src/lib.rt:66:13
 byte-requires : tie.Need-byte-requires Inv-loop μ-loop
 byte-requires c κs = search needs
 
--- src/lib.rt:67:14
 mul-h : tie.Need-mul-h Inv-loop μ-loop
 mul-h c = search needs
 
--- src/lib.rt:67:24
 cast-h : tie.Need-cast-h Inv-loop μ-loop
 cast-h c = search needs
 
--- src/lib.rt:67:14
 add-h : tie.Need-add-h Inv-loop μ-loop
 add-h c = search needs
 
--- src/lib.rt:68:9
 add-i : tie.Need-add-i Inv-loop μ-loop
 add-i c = search needs
 
--- src/lib.rt:65:5
 loop-less : tie.Need-loop-less Inv-loop μ-loop
 loop-less c = search needs
 
--- src/lib.rt:65:5
 loop-again : tie.Need-loop-again Inv-loop μ-loop
 loop-again c = search hashing-again
 
--- src/lib.rt:70:5
 wide-requires : tie.Need-wide-requires Inv-loop μ-loop
 wide-requires c κs = search needs
 
--- src/lib.rt:58:1
 returns : tie.Need-returns Inv-loop μ-loop
 returns c = search (hashing-done, hash-small)
 

@@ -7,19 +7,15 @@ use Rattle.names.proofs.hint.Lts as lts
 use Rattle.names.proofs.hash.Reads as hash-reads
 use Rattle.words.proofs.byte.Reads as byte-reads
 
--- src/lib.rt:77:9
 hash-requires : tie.Need-hash-requires
 hash-requires c κs = search needs
 
--- src/lib.rt:78:9
 byte-requires : tie.Need-byte-requires
 byte-requires c κs = search needs
 
--- src/lib.rt:79:5
 cast-result : tie.Need-cast-result
 cast-result c = search needs
 
--- src/lib.rt:74:1
 returns : tie.Need-returns
 returns c = search hint-is
 

@@ -17,51 +17,39 @@ Inv-loop s begins ends n w k₀ k = Seeking s begins ends n w k
 abbrev μ-loop : tie.MeasureT-loop
 μ-loop s begins ends n w k₀ k = n - k
 
--- src/lib.rt:18:5
 loop-holds : tie.Need-loop-holds Inv-loop μ-loop
 loop-holds c = search seek-start
 
--- src/lib.rt:19:38
 wide-requires : tie.Need-wide-requires Inv-loop μ-loop
 wide-requires c κs = search needs
 
--- src/lib.rt:19:13
 place-requires : tie.Need-place-requires Inv-loop μ-loop
 place-requires c κs = search needs
 
--- src/lib.rt:20:36
 wide-requires-2 : tie.Need-wide-requires-2 Inv-loop μ-loop
 wide-requires-2 c κs = search needs
 
--- src/lib.rt:20:13
 place-requires-2 : tie.Need-place-requires-2 Inv-loop μ-loop
 place-requires-2 c κs = search needs
 
--- src/lib.rt:21:13
 token-bytes-requires : tie.Need-token-bytes-requires Inv-loop μ-loop
 token-bytes-requires c κs = search needs
 
--- src/lib.rt:22:12
 is-word-requires : tie.Need-is-word-requires Inv-loop μ-loop
 is-word-requires c κs = search needs
 
--- src/lib.rt:23:13
 returns : tie.Need-returns Inv-loop μ-loop
 returns c = search seek-found
 
--- src/lib.rt:25:9
 add-k : tie.Need-add-k Inv-loop μ-loop
 add-k c = omega arith
 
--- src/lib.rt:18:5
 loop-less : tie.Need-loop-less Inv-loop μ-loop
 loop-less c = omega arith
 
--- src/lib.rt:18:5
 loop-again : tie.Need-loop-again Inv-loop μ-loop
 loop-again c = search seek-again
 
--- src/lib.rt:14:1
 returns-2 : tie.Need-returns-2 Inv-loop μ-loop
 returns-2 c = search seek-end
 

@@ -3,27 +3,21 @@ use borrow.Author.Needs.{needs}
 use Rattle.needs.proofs.capped.Statement.{statement}
 use Rattle.needs.proofs.capped.Tie as tie
 
--- src/lib.rt:15:15
 wide-requires : tie.Need-wide-requires
 wide-requires c κs = search needs
 
--- src/lib.rt:15:32
 wide-requires-2 : tie.Need-wide-requires-2
 wide-requires-2 c κs = search needs
 
--- src/lib.rt:15:15
 add-if1 : tie.Need-add-if1
 add-if1 c = search needs
 
--- src/lib.rt:16:9
 returns : tie.Need-returns
 returns c = search capped-large
 
--- src/lib.rt:18:5
 add-result : tie.Need-add-result
 add-result c = search needs
 
--- src/lib.rt:12:1
 returns-2 : tie.Need-returns-2
 returns-2 c = search capped-small
 

@@ -3,19 +3,15 @@ use borrow.Author.Needs.{needs}
 use Rattle.needs.proofs.join_sign.Statement.{statement}
 use Rattle.needs.proofs.join_sign.Tie as tie
 
--- src/lib.rt:50:34
 enum-known-e : tie.Need-enum-known-e
 enum-known-e c = search needs
 
--- src/lib.rt:51:9
 returns : tie.Need-returns
 returns c = search sign-other
 
--- src/lib.rt:54:9
 returns-2 : tie.Need-returns-2
 returns-2 c = search sign-join
 
--- src/lib.rt:47:1
 returns-3 : tie.Need-returns-3
 returns-3 c = search sign-none
 

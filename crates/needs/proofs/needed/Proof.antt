@@ -7,15 +7,12 @@ use Rattle.needs.proofs.needed.Lts as lts
 use Rattle.needs.proofs.made_of.Reads as made-of-reads
 use Rattle.needs.proofs.right_side.Reads as right-side-reads
 
--- src/lib.rt:105:16
 right-side-requires : tie.Need-right-side-requires
 right-side-requires c κs = search needs
 
--- src/lib.rt:105:5
 made-of-requires : tie.Need-made-of-requires
 made-of-requires c κs = search needs
 
--- src/lib.rt:101:1
 returns : tie.Need-returns
 returns c = search made-side
 

@@ -9,39 +9,30 @@ use Rattle.needs.proofs.capped.Reads as capped-reads
 use Rattle.needs.proofs.frames.Reads as frames-reads
 use Rattle.needs.proofs.texts.Reads as texts-reads
 
--- src/lib.rt:40:20
 frames-requires : tie.Need-frames-requires
 frames-requires c κs = search needs
 
--- src/lib.rt:40:31
 frames-requires-2 : tie.Need-frames-requires-2
 frames-requires-2 c κs = search needs
 
--- src/lib.rt:40:9
 capped-requires : tie.Need-capped-requires
 capped-requires c κs = search needs
 
--- src/lib.rt:41:20
 texts-requires : tie.Need-texts-requires
 texts-requires c κs = search needs
 
--- src/lib.rt:41:30
 texts-requires-2 : tie.Need-texts-requires-2
 texts-requires-2 c κs = search needs
 
--- src/lib.rt:41:9
 capped-requires-2 : tie.Need-capped-requires-2
 capped-requires-2 c κs = search needs
 
--- src/lib.rt:42:9
 mul-result : tie.Need-mul-result
 mul-result c = omega (arith, most _ _ (c .capped2 .ensures))
 
--- src/lib.rt:42:5
 add-result : tie.Need-add-result
 add-result c = omega (arith, most _ _ (c .capped2 .ensures), most _ _ (c .before .before .before .capped .ensures))
 
--- src/lib.rt:37:1
 returns : tie.Need-returns
 returns c = search plus-sum
 

@@ -3,15 +3,12 @@ use borrow.Author.Needs.{needs}
 use Rattle.operand_checks.proofs.check_put.Statement.{statement}
 use Rattle.operand_checks.proofs.check_put.Tie as tie
 
--- src/lib.rt:24:9
 returns : tie.Need-returns
 returns c = search put-empty
 
--- src/lib.rt:26:5
 put-end-requires : tie.Need-put-end-requires
 put-end-requires c κs = search needs
 
--- src/lib.rt:20:1
 returns-2 : tie.Need-returns-2
 returns-2 c = search put-along
 

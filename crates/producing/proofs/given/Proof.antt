@@ -6,23 +6,18 @@ use Rattle.producing.proofs.given.Reads as reads
 use Rattle.producing.proofs.given.Lts as lts
 use Rattle.operands.proofs.operand.Reads as operand-reads
 
--- src/lib.rt:16:29
 operand-requires : tie.Need-operand-requires
 operand-requires c κs = search needs
 
--- src/lib.rt:16:24
 enum-known-v : tie.Need-enum-known-v
 enum-known-v c = search needs
 
--- src/lib.rt:17:9
 enum-told : tie.Need-enum-told
 enum-told c = search needs
 
--- src/lib.rt:17:9
 returns : tie.Need-returns
 returns c = search given-none
 
--- src/lib.rt:13:1
 returns-2 : tie.Need-returns-2
 returns-2 c = search given-some
 

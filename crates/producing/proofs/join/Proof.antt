@@ -1,3 +1,5 @@
+use Prim.Native.Nat.{_+_}
+use mathlib.Core.Path.{ap₂}
 use Rattle.producing.proofs.Laws.{join-done}
 use borrow.Author.Needs.{needs}
 use Rattle.producing.proofs.join.Statement.{statement}
@@ -9,39 +11,30 @@ use Rattle.heap.proofs.take_text.Reads as take-text-reads
 use Rattle.joining.proofs.write_join.Reads as write-join-reads
 use Rattle.shown.proofs.shown_size.Reads as shown-size-reads
 
--- src/lib.rt:40:9
 lowest-text-requires : tie.Need-lowest-text-requires
 lowest-text-requires c κs = search needs
 
--- src/lib.rt:41:13
 shown-size-requires : tie.Need-shown-size-requires
 shown-size-requires c κs = search needs
 
--- src/lib.rt:41:42
 shown-size-requires-2 : tie.Need-shown-size-requires-2
 shown-size-requires-2 c κs = search needs
 
--- src/lib.rt:41:13
 add-n : tie.Need-add-n
 add-n c = search needs
 
--- src/lib.rt:42:5
 write-join-requires : tie.Need-write-join-requires
-write-join-requires c κs = (search needs, rw (← c .before .before .before .before .shown-size .ensures, ← c .before .before .shown-size2 .ensures))
+write-join-requires c κs = (search needs, ap₂ _+_ (c .before .before .before .before .shown-size .ensures) (c .before .before .shown-size2 .ensures))
 
--- src/lib.rt:43:5
 take-text-requires : tie.Need-take-text-requires
 take-text-requires c κs = search needs
 
--- src/lib.rt:36:1
 same-length : tie.Need-same-length
 same-length c = search needs
 
--- src/lib.rt:36:1
 same-length-2 : tie.Need-same-length-2
 same-length-2 c = search needs
 
--- src/lib.rt:36:1
 returns : tie.Need-returns
 returns c = join-done _ _ _ _ _ _ _ _ _ _ _ (c .before .before .before .before .before .before .write-join .ensures) (c .before .before .take-text .ensures) (c .before .before .before .before .before .before .before .before .before .before .before .before .before .lowest-text .ensures) (c .before .before .before .before .before .before .before .before .before .before .before .shown-size .ensures) (c .before .before .before .before .before .before .before .before .before .shown-size2 .ensures)
 

@@ -7,59 +7,45 @@ use Rattle.producing.proofs.produce.Lts as lts
 use Rattle.operators.proofs.operate.Reads as operate-reads
 use Rattle.producing.proofs.join.Reads as join-reads
 
--- src/lib.rt:52:9
 operate-requires : tie.Need-operate-requires
 operate-requires c κs = search readable-from
 
--- src/lib.rt:54:27
 enum-known-o : tie.Need-enum-known-o
 enum-known-o c = search needs
 
--- src/lib.rt:55:40
 enum-told : tie.Need-enum-told
 enum-told c = search needs
 
--- src/lib.rt:55:29
 join-requires : tie.Need-join-requires
 join-requires c κs = (can-join _ _ _ _ _ _ _ (c .before .before .before .before .before .before .before .before .before .before .before .pre .0) _ (c .before .before .before .before .operate .ensures) (c .before .before .enum-told .given .1), search needs)
 
--- src/lib.rt:56:31
 enum-told-2 : tie.Need-enum-told-2
 enum-told-2 c = search needs
 
--- src/lib.rt:48:1
 same-length : tie.Need-same-length
 same-length c = search needs
 
--- src/lib.rt:48:1
 same-length-2 : tie.Need-same-length-2
 same-length-2 c = search needs
 
--- src/lib.rt:48:1
 returns : tie.Need-returns
 returns c = produce-integer _ _ _ _ _ _ _ (c .before .before .before .before .before .before .before .before .before .before .pre .0) _ (c .before .before .before .operate .ensures) _ _ (c .before .o .given .1) (search needs)
 
--- src/lib.rt:48:1
 same-length-3 : tie.Need-same-length-3
 same-length-3 c = search needs
 
--- src/lib.rt:48:1
 same-length-4 : tie.Need-same-length-4
 same-length-4 c = search needs
 
--- src/lib.rt:48:1
 returns-2 : tie.Need-returns-2
 returns-2 c = search produce-joined
 
--- src/lib.rt:48:1
 same-length-5 : tie.Need-same-length-5
 same-length-5 c = search needs
 
--- src/lib.rt:48:1
 same-length-6 : tie.Need-same-length-6
 same-length-6 c = search needs
 
--- src/lib.rt:48:1
 returns-3 : tie.Need-returns-3
 returns-3 c = search produce-ended
 

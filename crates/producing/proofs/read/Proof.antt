@@ -8,35 +8,27 @@ use Rattle.producing.proofs.given.Reads as given-reads
 use Rattle.tables.proofs.expression_at.Reads as expression-at-reads
 use Rattle.texts.proofs.truth.Reads as truth-reads
 
--- src/lib.rt:26:35
 expression-at-requires : tie.Need-expression-at-requires
 expression-at-requires c κs = search needs
 
--- src/lib.rt:26:30
 enum-known-a : tie.Need-enum-known-a
 enum-known-a c = search needs
 
--- src/lib.rt:27:9
 given-requires : tie.Need-given-requires
 given-requires c κs = search needs
 
--- src/lib.rt:27:9
 returns : tie.Need-returns
 returns c = search read-base
 
--- src/lib.rt:29:21
 given-requires-2 : tie.Need-given-requires-2
 given-requires-2 c κs = search needs
 
--- src/lib.rt:29:8
 truth-requires : tie.Need-truth-requires
 truth-requires c κs = search needs
 
--- src/lib.rt:30:9
 returns-2 : tie.Need-returns-2
 returns-2 c = search read-not-true
 
--- src/lib.rt:23:1
 returns-3 : tie.Need-returns-3
 returns-3 c = search read-not-false
 

@@ -18,39 +18,30 @@ Inv-loop h limit f most n₀ g₀ n g = Tally (frame-used h) g n
 abbrev μ-loop : tie.MeasureT-loop
 μ-loop h limit f most n₀ g₀ n g = 256 - g
 
--- src/lib.rt:81:9
 returns : tie.Need-returns Inv-loop μ-loop
 returns c = search count-none
 
--- src/lib.rt:86:5
 loop-holds : tie.Need-loop-holds Inv-loop μ-loop
 loop-holds c = search tally-start
 
--- src/lib.rt:87:12
 frame-used-requires : tie.Need-frame-used-requires Inv-loop μ-loop
 frame-used-requires c κs = search needs
 
--- src/lib.rt:88:13
 add-n : tie.Need-add-n Inv-loop μ-loop
 add-n c = omega (arith, c .before .before .before .loop .inv .small)
 
--- src/lib.rt:90:9
 add-g : tie.Need-add-g Inv-loop μ-loop
 add-g c = omega arith
 
--- src/lib.rt:92:13
 returns-2 : tie.Need-returns-2 Inv-loop μ-loop
 returns-2 c = ⊎-elim (λ w. count-stop _ _ _ _ _ (tally-yes _ _ _ (c .before .before .before .before .loop .inv) (c .before .before .before .loop-test .taken) _ (c .before .before .frame-used .ensures) _ (search needs) (search needs)) (c .before .before .before .before .before .if1 .left) _ refl (c .if3 .taken)) (λ w. count-stop _ _ _ _ _ (tally-no _ _ _ (c .before .before .before .before .loop .inv) (c .before .before .before .loop-test .taken) _ (c .before .before .frame-used .ensures) _ (search needs) (search needs)) (c .before .before .before .before .before .if1 .left) _ refl (c .if3 .taken)) (c .before .if2 .came)
 
--- src/lib.rt:86:5
 loop-less : tie.Need-loop-less Inv-loop μ-loop
 loop-less c = omega arith
 
--- src/lib.rt:86:5
 loop-again : tie.Need-loop-again Inv-loop μ-loop
 loop-again c = ⊎-elim (λ w. search tally-yes) (λ w. search tally-no) (c .before .if2 .came)
 
--- src/lib.rt:77:1
 returns-3 : tie.Need-returns-3 Inv-loop μ-loop
 returns-3 c = search count-all
 

@@ -11,67 +11,51 @@ use Rattle.reserving.proofs.count_texts.Reads as count-texts-reads
 use Rattle.reserving.proofs.seek.Reads as seek-reads
 use Rattle.tables.proofs.frame_limit.Reads as frame-limit-reads
 
--- src/lib.rt:118:9
 add-requires : tie.Need-add-requires
 add-requires c κs = search needs
 
--- src/lib.rt:120:9
 seek-requires : tie.Need-seek-requires
 seek-requires c κs = search reserve-full
 
--- src/lib.rt:120:9
 same-length : tie.Need-same-length
 same-length c = search needs
 
--- src/lib.rt:120:9
 returns : tie.Need-returns
 returns c = (search reserve-room, search reserve-reckons)
 
--- src/lib.rt:122:9
 frame-limit-requires : tie.Need-frame-limit-requires
 frame-limit-requires c κs = search needs
 
--- src/lib.rt:123:9
 count-frames-requires : tie.Need-count-frames-requires
 count-frames-requires c κs = search needs
 
--- src/lib.rt:126:16
 count-texts-requires : tie.Need-count-texts-requires
 count-texts-requires c κs = search needs
 
--- src/lib.rt:130:9
 add-requires-2 : tie.Need-add-requires-2
 add-requires-2 c κs = search needs
 
--- src/lib.rt:132:9
 seek-requires-2 : tie.Need-seek-requires-2
 seek-requires-2 c κs = count-full _ _ _ _ _ (c .before .before .before .before .before .before .before .before .before .before .before .before .before .before .pre .1) _ (c .before .before .before .before .before .before .before .before .frame-limit .ensures) _ _ (c .before .before .before .before .before .before .count-frames .ensures) (c .before .before .before .before .count-texts .ensures) _ (c .before .before .before .add2 .ensures) (c .before .if2 .taken)
 
--- src/lib.rt:132:9
 same-length-2 : tie.Need-same-length-2
 same-length-2 c = search needs
 
--- src/lib.rt:132:9
 returns-2 : tie.Need-returns-2
 returns-2 c = (count-room _ _ _ _ _ (c .before .before .before .before .before .before .before .before .before .before .before .before .before .before .before .pre .1) _ (c .before .before .before .before .before .before .before .before .before .frame-limit .ensures) _ _ (c .before .before .before .before .before .before .before .count-frames .ensures) (c .before .before .before .before .before .count-texts .ensures) _ (c .before .before .before .before .add2 .ensures) (c .before .before .if2 .taken) _ (c .seek2 .ensures), count-reckons _ _ _ _ _ (c .before .before .before .before .before .before .before .before .before .before .before .before .before .before .before .pre .1) _ (c .before .before .before .before .before .before .before .before .before .frame-limit .ensures) _ _ (c .before .before .before .before .before .before .before .count-frames .ensures) (c .before .before .before .before .before .count-texts .ensures) _ (c .before .before .before .before .add2 .ensures) (c .before .before .if2 .taken) _ (c .seek2 .ensures))
 
--- src/lib.rt:134:9
 collect-heap-requires : tie.Need-collect-heap-requires
 collect-heap-requires c κs = search needs
 
--- src/lib.rt:141:19
 add-requires-3 : tie.Need-add-requires-3
 add-requires-3 c κs = search needs
 
--- src/lib.rt:141:5
 seek-requires-3 : tie.Need-seek-requires-3
 seek-requires-3 c κs = collect-full _ _ _ _ _ (c .before .before .before .before .before .before .before .before .before .before .before .before .before .before .before .before .before .before .before .pre .1) _ (c .before .before .before .before .before .before .before .before .before .before .before .before .before .frame-limit .ensures) _ _ (c .before .before .before .before .before .before .before .before .before .before .before .count-frames .ensures) (c .before .before .before .before .before .before .before .before .before .count-texts .ensures) _ (c .before .before .before .before .before .before .before .before .add2 .ensures) (c .before .before .before .before .before .before .if2 .left) _ _ (c .before .before .before .before .collect-heap .ensures .0) _ (c .add3 .ensures)
 
--- src/lib.rt:112:1
 same-length-3 : tie.Need-same-length-3
 same-length-3 c = search needs
 
--- src/lib.rt:112:1
 returns-3 : tie.Need-returns-3
 returns-3 c = (collect-reserves _ _ _ _ _ (c .before .before .before .before .before .before .before .before .before .before .before .before .before .before .before .before .before .before .before .before .pre .1) _ (c .before .before .before .before .before .before .before .before .before .before .before .before .before .before .frame-limit .ensures) _ _ (c .before .before .before .before .before .before .before .before .before .before .before .before .count-frames .ensures) (c .before .before .before .before .before .before .before .before .before .before .count-texts .ensures) _ (c .before .before .before .before .before .before .before .before .before .add2 .ensures) (c .before .before .before .before .before .before .before .if2 .left) _ _ (c .before .before .before .before .before .collect-heap .ensures .0) _ (c .before .add3 .ensures) _ (c .seek3 .ensures), collect-reckons _ _ _ _ _ (c .before .before .before .before .before .before .before .before .before .before .before .before .before .before .before .before .before .before .before .before .pre .1) _ (c .before .before .before .before .before .before .before .before .before .before .before .before .before .before .frame-limit .ensures) _ _ (c .before .before .before .before .before .before .before .before .before .before .before .before .count-frames .ensures) (c .before .before .before .before .before .before .before .before .before .before .count-texts .ensures) _ (c .before .before .before .before .before .before .before .before .before .add2 .ensures) (c .before .before .before .before .before .before .before .if2 .left) _ _ (c .before .before .before .before .before .collect-heap .ensures .0) _ (c .before .add3 .ensures) _ (c .seek3 .ensures))
 

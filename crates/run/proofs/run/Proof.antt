@@ -7,39 +7,30 @@ use Rattle.run.proofs.run.Lts as lts
 use Rattle.run.proofs.run_steps.Reads as run-steps-reads
 use Rattle.wellformed.proofs.well_formed.Reads as well-formed-reads
 
--- src/lib.rt:91:9
 well-formed-requires : tie.Need-well-formed-requires
 well-formed-requires c κs = search needs
 
--- src/lib.rt:92:9
 same-length : tie.Need-same-length
 same-length c = search needs
 
--- src/lib.rt:92:9
 same-length-2 : tie.Need-same-length-2
 same-length-2 c = search needs
 
--- src/lib.rt:92:9
 returns : tie.Need-returns
 returns c = (search refused-exact, search refused-means)
 
--- src/lib.rt:94:24
 run-steps-requires : tie.Need-run-steps-requires
 run-steps-requires c κs = search (formed-here, c .before .before .before .if1 .left, c .before .before .before .before .well-formed .ensures)
 
--- src/lib.rt:80:1
 same-length-3 : tie.Need-same-length-3
 same-length-3 c = search needs
 
--- src/lib.rt:80:1
 same-length-4 : tie.Need-same-length-4
 same-length-4 c = search needs
 
--- src/lib.rt:80:1
 same-length-5 : tie.Need-same-length-5
 same-length-5 c = search needs
 
--- src/lib.rt:80:1
 returns-2 : tie.Need-returns-2
 returns-2 c = (search ran-exact, search ran-means)
 

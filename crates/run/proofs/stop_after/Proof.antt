@@ -6,31 +6,24 @@ use Rattle.run.proofs.stop_after.Reads as reads
 use Rattle.run.proofs.stop_after.Lts as lts
 use Rattle.stops.proofs.stop_of.Reads as stop-of-reads
 
--- src/lib.rt:16:24
 enum-known-o : tie.Need-enum-known-o
 enum-known-o c = search needs
 
--- src/lib.rt:16:30
 stop-of-requires : tie.Need-stop-of-requires
 stop-of-requires c κs = search needs
 
--- src/lib.rt:17:29
 enum-told : tie.Need-enum-told
 enum-told c = search needs
 
--- src/lib.rt:18:23
 enum-known-o-2 : tie.Need-enum-known-o-2
 enum-known-o-2 c = search needs
 
--- src/lib.rt:12:1
 returns : tie.Need-returns
 returns c = search after-ended
 
--- src/lib.rt:12:1
 returns-2 : tie.Need-returns-2
 returns-2 c = search after-space
 
--- src/lib.rt:12:1
 returns-3 : tie.Need-returns-3
 returns-3 c = search after-made
 

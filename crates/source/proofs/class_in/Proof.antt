@@ -4,11 +4,9 @@ use Rattle.source.proofs.class_in.Tie as tie
 use Rattle.source.proofs.class_in.Reads as reads
 use Rattle.source.proofs.class_in.Lts as lts
 
--- src/lib.rt:280:5
 element-copy-out-result : tie.Need-element-copy-out-result
 element-copy-out-result c = search needs
 
--- src/lib.rt:275:1
 returns : tie.Need-returns
 returns c = c .before .pre .rule _ (search needs)
 

@@ -8,47 +8,36 @@ use Rattle.source.proofs.byte_at.Reads as byte-at-reads
 use Rattle.source.proofs.class_in.Reads as class-in-reads
 use Rattle.spaces.proofs.comment_end.Reads as comment-end-reads
 
--- src/lib.rt:26:9
 byte-at-requires : tie.Need-byte-at-requires
 byte-at-requires c κs = search needs
 
--- src/lib.rt:27:9
 class-in-requires : tie.Need-class-in-requires
 class-in-requires c κs = search needs
 
--- src/lib.rt:29:16
 add-result : tie.Need-add-result
 add-result c = search needs
 
--- src/lib.rt:29:9
 returns : tie.Need-returns
 returns c = search skip-space
 
--- src/lib.rt:32:9
 returns-2 : tie.Need-returns-2
 returns-2 c = search skip-no-slash
 
--- src/lib.rt:34:32
 add-byte-at : tie.Need-add-byte-at
 add-byte-at c = search needs
 
--- src/lib.rt:34:9
 byte-at-requires-2 : tie.Need-byte-at-requires-2
 byte-at-requires-2 c κs = search needs
 
--- src/lib.rt:36:9
 returns-3 : tie.Need-returns-3
 returns-3 c = search skip-one-slash
 
--- src/lib.rt:38:20
 add-comment-end : tie.Need-add-comment-end
 add-comment-end c = search needs
 
--- src/lib.rt:38:5
 comment-end-requires : tie.Need-comment-end-requires
 comment-end-requires c κs = search needs
 
--- src/lib.rt:22:1
 returns-4 : tie.Need-returns-4
 returns-4 c = search skip-slashes
 

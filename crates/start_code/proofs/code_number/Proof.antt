@@ -6,27 +6,21 @@ use Rattle.start_code.proofs.code_number.Reads as reads
 use Rattle.start_code.proofs.code_number.Lts as lts
 use Rattle.tables.proofs.expression_at.Reads as expression-at-reads
 
--- src/lib.rt:44:9
 returns : tie.Need-returns
 returns c = search number-none
 
--- src/lib.rt:46:38
 sub-expression-at : tie.Need-sub-expression-at
 sub-expression-at c = search needs
 
--- src/lib.rt:46:9
 expression-at-requires : tie.Need-expression-at-requires
 expression-at-requires c κs = search needs
 
--- src/lib.rt:47:31
 enum-known-e : tie.Need-enum-known-e
 enum-known-e c = search needs
 
--- src/lib.rt:48:9
 returns-2 : tie.Need-returns-2
 returns-2 c = search number-other
 
--- src/lib.rt:40:1
 returns-3 : tie.Need-returns-3
 returns-3 c = search number-here
 

@@ -15,47 +15,36 @@ Inv-loop p name from z₀ i₀ z i = Finding p name from z i
 abbrev μ-loop : tie.MeasureT-loop
 μ-loop p name from z₀ i₀ z i = 16 - i
 
--- src/lib.rt:12:5
 loop-holds : tie.Need-loop-holds Inv-loop μ-loop
 loop-holds c = search find-start
 
--- src/lib.rt:14:13
 returns : tie.Need-returns Inv-loop μ-loop
 returns c = search find-none
 
--- src/lib.rt:16:41
 sub-slot-name : tie.Need-sub-slot-name Inv-loop μ-loop
 sub-slot-name c = search needs
 
--- src/lib.rt:16:20
 slot-name-requires : tie.Need-slot-name-requires Inv-loop μ-loop
 slot-name-requires c κs = search needs
 
--- src/lib.rt:17:13
 returns-2 : tie.Need-returns-2 Inv-loop μ-loop
 returns-2 c = search (find-here, c .if2 .taken, c .before .before .before .before .loop .inv)
 
--- src/lib.rt:19:35
 sub-slot-after : tie.Need-sub-slot-after Inv-loop μ-loop
 sub-slot-after c = search needs
 
--- src/lib.rt:19:9
 slot-after-requires : tie.Need-slot-after-requires Inv-loop μ-loop
 slot-after-requires c κs = search needs
 
--- src/lib.rt:20:9
 add-i : tie.Need-add-i Inv-loop μ-loop
 add-i c = omega arith
 
--- src/lib.rt:12:5
 loop-less : tie.Need-loop-less Inv-loop μ-loop
 loop-less c = omega arith
 
--- src/lib.rt:12:5
 loop-again : tie.Need-loop-again Inv-loop μ-loop
 loop-again c = search find-again
 
--- src/lib.rt:7:1
 returns-3 : tie.Need-returns-3 Inv-loop μ-loop
 returns-3 c = search find-end
 

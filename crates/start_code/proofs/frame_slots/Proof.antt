@@ -7,35 +7,27 @@ use Rattle.start_code.proofs.frame_slots.Lts as lts
 use Rattle.tables.proofs.expression_at.Reads as expression-at-reads
 use Rattle.tables.proofs.link.Reads as link-reads
 
--- src/lib.rt:30:9
 returns : tie.Need-returns
 returns c = search slots-none
 
--- src/lib.rt:32:38
 sub-expression-at : tie.Need-sub-expression-at
 sub-expression-at c = search needs
 
--- src/lib.rt:32:9
 expression-at-requires : tie.Need-expression-at-requires
 expression-at-requires c κs = search needs
 
--- src/lib.rt:33:32
 enum-known-e : tie.Need-enum-known-e
 enum-known-e c = search needs
 
--- src/lib.rt:34:9
 returns-2 : tie.Need-returns-2
 returns-2 c = search slots-other
 
--- src/lib.rt:36:24
 sub-link : tie.Need-sub-link
 sub-link c = search needs
 
--- src/lib.rt:36:5
 link-requires : tie.Need-link-requires
 link-requires c κs = search needs
 
--- src/lib.rt:26:1
 returns-3 : tie.Need-returns-3
 returns-3 c = search slots-here
 

@@ -9,27 +9,21 @@ use Rattle.start_code.proofs.find_slot.Reads as find-slot-reads
 use Rattle.start_code.proofs.frame_slots.Reads as frame-slots-reads
 use Rattle.tables.proofs.program_slots.Reads as program-slots-reads
 
--- src/lib.rt:57:9
 program-slots-requires : tie.Need-program-slots-requires
 program-slots-requires c κs = search needs
 
--- src/lib.rt:58:9
 find-slot-requires : tie.Need-find-slot-requires
 find-slot-requires c κs = search needs
 
--- src/lib.rt:59:9
 frame-slots-requires : tie.Need-frame-slots-requires
 frame-slots-requires c κs = search needs
 
--- src/lib.rt:60:9
 find-slot-requires-2 : tie.Need-find-slot-requires-2
 find-slot-requires-2 c κs = search needs
 
--- src/lib.rt:61:5
 code-number-requires : tie.Need-code-number-requires
 code-number-requires c κs = search needs
 
--- src/lib.rt:54:1
 returns : tie.Need-returns
 returns c = search start-done
 

@@ -8,19 +8,15 @@ use Rattle.start_state.proofs.new_self.Lts as lts
 use Rattle.evaluation.proofs.claim.Reads as claim-reads
 use Rattle.heap.proofs.set_self.Reads as set-self-reads
 
--- src/lib.rt:21:9
 claim-requires : tie.Need-claim-requires
 claim-requires c κs = search none-below
 
--- src/lib.rt:22:5
 set-self-requires : tie.Need-set-self-requires
 set-self-requires c κs = search needs
 
--- src/lib.rt:18:1
 same-length : tie.Need-same-length
 same-length c = search needs
 
--- src/lib.rt:18:1
 returns : tie.Need-returns
 returns c = search self-done
 

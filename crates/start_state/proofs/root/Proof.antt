@@ -10,31 +10,24 @@ use Rattle.start_state.proofs.new_self.Reads as new-self-reads
 use Rattle.tables.proofs.code_first.Reads as code-first-reads
 use Rattle.tables.proofs.start.Reads as start-reads
 
--- src/lib.rt:29:5
 new-self-requires : tie.Need-new-self-requires
 new-self-requires c κs = search needs
 
--- src/lib.rt:30:5
 set-program-requires : tie.Need-set-program-requires
 set-program-requires c κs = search needs
 
--- src/lib.rt:31:9
 start-requires : tie.Need-start-requires
 start-requires c κs = search needs
 
--- src/lib.rt:32:27
 code-first-requires : tie.Need-code-first-requires
 code-first-requires c κs = search needs
 
--- src/lib.rt:32:5
 set-position-requires : tie.Need-set-position-requires
 set-position-requires c κs = search needs
 
--- src/lib.rt:26:1
 same-length : tie.Need-same-length
 same-length c = search needs
 
--- src/lib.rt:26:1
 returns : tie.Need-returns
 returns c = search rooted-done
 

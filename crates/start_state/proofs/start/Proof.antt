@@ -7,23 +7,18 @@ use Rattle.start_state.proofs.start.Lts as lts
 use Rattle.start_state.proofs.make_written.Reads as make-written-reads
 use Rattle.start_state.proofs.root.Reads as root-reads
 
--- src/lib.rt:33:9
 make-written-requires : tie.Need-make-written-requires
 make-written-requires c κs = search needs
 
--- src/lib.rt:34:5
 root-requires : tie.Need-root-requires
 root-requires c κs = search needs
 
--- src/lib.rt:29:1
 same-length : tie.Need-same-length
 same-length c = search needs
 
--- src/lib.rt:29:1
 same-length-2 : tie.Need-same-length-2
 same-length-2 c = search needs
 
--- src/lib.rt:29:1
 returns : tie.Need-returns
 returns c = search starts-done
 

@@ -9,35 +9,27 @@ use Rattle.step.proofs.joined.Lts as lts
 use Rattle.step_join.proofs.assign_join.Reads as assign-join-reads
 use Rattle.heap.proofs.set_end_mark.Reads as set-end-mark-reads
 
--- src/lib.rt:40:9
 assign-join-requires : tie.Need-assign-join-requires
 assign-join-requires c κs = (search can-assign, search room-texts)
 
--- src/lib.rt:42:9
 set-end-mark-requires : tie.Need-set-end-mark-requires
 set-end-mark-requires c κs = search needs
 
--- src/lib.rt:43:9
 same-length : tie.Need-same-length
 same-length c = search needs
 
--- src/lib.rt:43:9
 same-length-2 : tie.Need-same-length-2
 same-length-2 c = search needs
 
--- src/lib.rt:43:9
 returns : tie.Need-returns
 returns c = (search (join-ended, words-fit {h = c .before .before .set-end-mark .last .0} (c .slice-known5 .given)), search join-ended-knows)
 
--- src/lib.rt:33:1
 same-length-3 : tie.Need-same-length-3
 same-length-3 c = search needs
 
--- src/lib.rt:33:1
 same-length-4 : tie.Need-same-length-4
 same-length-4 c = search needs
 
--- src/lib.rt:33:1
 returns-2 : tie.Need-returns-2
 returns-2 c = (search (join-made, words-fit {h = c .before .before .before .before .before .assign-join .last .1 .1 .0} (c .before .before .before .slice-known3 .given)), search join-made-knows)
 

@@ -13,59 +13,45 @@ use Rattle.step_parts.proofs.in_parts.Reads as in-parts-reads
 use Rattle.step.proofs.joined.Reads as joined-reads
 use Rattle.step_parts.proofs.reserve_for.Reads as reserve-for-reads
 
--- src/lib.rt:71:9
 reserve-for-requires : tie.Need-reserve-for-requires
 reserve-for-requires c κs = (search can-reserve, c .before .before .before .before .before .before .pre .1 .1)
 
--- src/lib.rt:75:9
 set-end-mark-requires : tie.Need-set-end-mark-requires
 set-end-mark-requires c κs = search needs
 
--- src/lib.rt:76:9
 same-length : tie.Need-same-length
 same-length c = search needs
 
--- src/lib.rt:76:9
 returns : tie.Need-returns
 returns c = (search (full-ended, words-fit {h = c .before .before .set-end-mark .last .0} (c .slice-known5 .given)), search full-knows)
 
--- src/lib.rt:81:8
 joins-requires : tie.Need-joins-requires
 joins-requires c κs = search needs
 
--- src/lib.rt:82:9
 joined-requires : tie.Need-joined-requires
 joined-requires c κs = (search ready-step, (sym (c .before .before .before .joins .ensures) ∙ c .before .before .if2 .taken, search ready-room))
 
--- src/lib.rt:82:9
 same-length-2 : tie.Need-same-length-2
 same-length-2 c = search needs
 
--- src/lib.rt:82:9
 same-length-3 : tie.Need-same-length-3
 same-length-3 c = search needs
 
--- src/lib.rt:82:9
 returns-2 : tie.Need-returns-2
 returns-2 c = (search ready-quietly, c .before .before .before .before .joined .ensures .1)
 
--- src/lib.rt:84:5
 in-parts-requires : tie.Need-in-parts-requires
 in-parts-requires c κs = (search ready-can, (search ready-form, search ready-room))
 
--- src/lib.rt:56:1
 same-length-4 : tie.Need-same-length-4
 same-length-4 c = search needs
 
--- src/lib.rt:56:1
 same-length-5 : tie.Need-same-length-5
 same-length-5 c = search needs
 
--- src/lib.rt:56:1
 same-length-6 : tie.Need-same-length-6
 same-length-6 c = search needs
 
--- src/lib.rt:56:1
 returns-3 : tie.Need-returns-3
 returns-3 c = (search (ready-attempts, c .before .before .before .before .before .before .before .before .before .before .before .before .before .before .before .before .before .before .before .before .before .before .before .pre .0, c .before .before .before .before .before .before .before .before .before .before .before .before .before .before .before .before .reserve-for .ensures .0, c .before .before .before .before .before .before .before .before .before .before .before .before .if1 .left, c .before .before .before .before .before .before .in-parts .ensures .0), c .before .before .before .before .before .before .in-parts .ensures .1)
 

@@ -11,71 +11,54 @@ use Rattle.tables.proofs.instruction_a.Reads as instruction-a-reads
 use Rattle.tables.proofs.instruction_b.Reads as instruction-b-reads
 use Rattle.tables.proofs.instruction_c.Reads as instruction-c-reads
 
--- src/lib.rt:158:34
 instruction-c-requires : tie.Need-instruction-c-requires
 instruction-c-requires c κs = search needs
 
--- src/lib.rt:158:11
 expression-requires : tie.Need-expression-requires
 expression-requires c κs = search assign-readable
 
--- src/lib.rt:159:22
 enum-known-v : tie.Need-enum-known-v
 enum-known-v c = search needs
 
--- src/lib.rt:160:17
 instruction-a-requires : tie.Need-instruction-a-requires
 instruction-a-requires c κs = search needs
 
--- src/lib.rt:161:17
 instruction-b-requires : tie.Need-instruction-b-requires
 instruction-b-requires c κs = search needs
 
--- src/lib.rt:162:17
 put-from-requires : tie.Need-put-from-requires
 put-from-requires c κs = search needs
 
--- src/lib.rt:164:17
 same-length : tie.Need-same-length
 same-length c = search needs
 
--- src/lib.rt:164:17
 returns : tie.Need-returns
 returns c = search assign-put-ended
 
--- src/lib.rt:166:13
 go-on-requires : tie.Need-go-on-requires
 go-on-requires c κs = search needs
 
--- src/lib.rt:169:22
 enum-known-e : tie.Need-enum-known-e
 enum-known-e c = search needs
 
--- src/lib.rt:170:25
 enum-told : tie.Need-enum-told
 enum-told c = search needs
 
--- src/lib.rt:154:1
 same-length-2 : tie.Need-same-length-2
 same-length-2 c = search needs
 
--- src/lib.rt:154:1
 returns-2 : tie.Need-returns-2
 returns-2 c = search assign-made
 
--- src/lib.rt:154:1
 same-length-3 : tie.Need-same-length-3
 same-length-3 c = search needs
 
--- src/lib.rt:154:1
 returns-3 : tie.Need-returns-3
 returns-3 c = search assign-ended
 
--- src/lib.rt:154:1
 same-length-4 : tie.Need-same-length-4
 same-length-4 c = search needs
 
--- src/lib.rt:154:1
 returns-4 : tie.Need-returns-4
 returns-4 c = search assign-left
 

@@ -13,115 +13,87 @@ use Rattle.ints.proofs.int_of.Reads as int-of-reads
 use Rattle.paths.proofs.fetch.Reads as fetch-reads
 use Rattle.tables.proofs.expression_at.Reads as expression-at-reads
 
--- src/lib.rt:92:9
 expression-at-requires : tie.Need-expression-at-requires
 expression-at-requires c κs = search needs
 
--- src/lib.rt:94:34
 enum-known-e : tie.Need-enum-known-e
 enum-known-e c = search needs
 
--- src/lib.rt:94:64
 int-of-requires : tie.Need-int-of-requires
 int-of-requires c κs = search needs
 
--- src/lib.rt:95:34
 enum-known-e-2 : tie.Need-enum-known-e-2
 enum-known-e-2 c = search needs
 
--- src/lib.rt:96:35
 enum-known-e-3 : tie.Need-enum-known-e-3
 enum-known-e-3 c = search needs
 
--- src/lib.rt:97:45
 self-value-requires : tie.Need-self-value-requires
 self-value-requires c κs = search needs
 
--- src/lib.rt:97:26
 fetch-requires : tie.Need-fetch-requires
 fetch-requires c κs = search needs
 
--- src/lib.rt:97:13
 from-fetched-requires : tie.Need-from-fetched-requires
 from-fetched-requires c κs = search needs
 
--- src/lib.rt:99:38
 enum-known-e-4 : tie.Need-enum-known-e-4
 enum-known-e-4 c = search needs
 
--- src/lib.rt:100:45
 program-value-requires : tie.Need-program-value-requires
 program-value-requires c κs = search needs
 
--- src/lib.rt:100:26
 fetch-requires-2 : tie.Need-fetch-requires-2
 fetch-requires-2 c κs = search needs
 
--- src/lib.rt:100:13
 from-fetched-requires-2 : tie.Need-from-fetched-requires-2
 from-fetched-requires-2 c κs = search needs
 
--- src/lib.rt:102:31
 enum-known-e-5 : tie.Need-enum-known-e-5
 enum-known-e-5 c = search needs
 
--- src/lib.rt:103:38
 enum-told : tie.Need-enum-told
 enum-told c = search needs
 
--- src/lib.rt:104:30
 enum-known-e-6 : tie.Need-enum-known-e-6
 enum-known-e-6 c = search needs
 
--- src/lib.rt:104:36
 negation-requires : tie.Need-negation-requires
 negation-requires c κs = search needs
 
--- src/lib.rt:105:34
 enum-known-e-7 : tie.Need-enum-known-e-7
 enum-known-e-7 c = search needs
 
--- src/lib.rt:105:46
 operation-requires : tie.Need-operation-requires
 operation-requires c κs = search needs
 
--- src/lib.rt:106:33
 enum-told-2 : tie.Need-enum-told-2
 enum-told-2 c = search needs
 
--- src/lib.rt:88:1
 returns : tie.Need-returns
 returns c = search given-integer
 
--- src/lib.rt:88:1
 returns-2 : tie.Need-returns-2
 returns-2 c = search given-literal
 
--- src/lib.rt:88:1
 returns-3 : tie.Need-returns-3
 returns-3 c = search given-self
 
--- src/lib.rt:88:1
 returns-4 : tie.Need-returns-4
 returns-4 c = search given-program
 
--- src/lib.rt:88:1
 returns-5 : tie.Need-returns-5
 returns-5 c = search given-code
 
--- src/lib.rt:88:1
 returns-6 : tie.Need-returns-6
 returns-6 c = search given-frame
 
--- src/lib.rt:88:1
 returns-7 : tie.Need-returns-7
 returns-7 c = search given-not
 
--- src/lib.rt:88:1
 returns-8 : tie.Need-returns-8
 returns-8 c = search given-operation
 
--- src/lib.rt:88:1
 returns-9 : tie.Need-returns-9
 returns-9 c = search given-bad
 

@@ -5,19 +5,15 @@ use Rattle.step_assign.proofs.from_fetched.Tie as tie
 use Rattle.step_assign.proofs.from_fetched.Reads as reads
 use Rattle.step_assign.proofs.from_fetched.Lts as lts
 
--- src/lib.rt:33:24
 enum-known-f : tie.Need-enum-known-f
 enum-known-f c = search needs
 
--- src/lib.rt:34:9
 enum-told : tie.Need-enum-told
 enum-told c = search needs
 
--- src/lib.rt:34:9
 returns : tie.Need-returns
 returns c = search fetched-none
 
--- src/lib.rt:30:1
 returns-2 : tie.Need-returns-2
 returns-2 c = search fetched-some
 

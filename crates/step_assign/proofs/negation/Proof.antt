@@ -7,31 +7,24 @@ use Rattle.step_assign.proofs.negation.Lts as lts
 use Rattle.operands.proofs.operand.Reads as operand-reads
 use Rattle.texts.proofs.truth.Reads as truth-reads
 
--- src/lib.rt:43:29
 operand-requires : tie.Need-operand-requires
 operand-requires c κs = search needs
 
--- src/lib.rt:43:24
 enum-known-v : tie.Need-enum-known-v
 enum-known-v c = search needs
 
--- src/lib.rt:44:9
 enum-told : tie.Need-enum-told
 enum-told c = search needs
 
--- src/lib.rt:44:9
 returns : tie.Need-returns
 returns c = search not-none
 
--- src/lib.rt:46:8
 truth-requires : tie.Need-truth-requires
 truth-requires c κs = search needs
 
--- src/lib.rt:47:9
 returns-2 : tie.Need-returns-2
 returns-2 c = search not-true
 
--- src/lib.rt:40:1
 returns-3 : tie.Need-returns-3
 returns-3 c = search not-false
 

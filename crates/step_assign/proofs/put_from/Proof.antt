@@ -8,31 +8,24 @@ use Rattle.step_assign.proofs.put.Reads as put-reads
 use Rattle.commit.proofs.root.Reads as root-reads
 use Rattle.commit.proofs.set_root.Reads as set-root-reads
 
--- src/lib.rt:147:9
 set-root-requires : tie.Need-set-root-requires
 set-root-requires c κs = search needs
 
--- src/lib.rt:148:9
 same-length : tie.Need-same-length
 same-length c = search needs
 
--- src/lib.rt:148:9
 returns : tie.Need-returns
 returns c = search from-empty
 
--- src/lib.rt:150:15
 root-requires : tie.Need-root-requires
 root-requires c κs = search needs
 
--- src/lib.rt:150:5
 put-requires : tie.Need-put-requires
 put-requires c κs = search needs
 
--- src/lib.rt:143:1
 same-length-2 : tie.Need-same-length-2
 same-length-2 c = search needs
 
--- src/lib.rt:143:1
 returns-2 : tie.Need-returns-2
 returns-2 c = search from-root
 

@@ -10,63 +10,48 @@ use Rattle.heap.proofs.set_slot_value.Reads as set-slot-value-reads
 use Rattle.heap.proofs.slot_count.Reads as slot-count-reads
 use Rattle.paths.proofs.find_slot.Reads as find-slot-reads
 
--- src/lib.rt:115:28
 find-slot-requires : tie.Need-find-slot-requires
 find-slot-requires c κs = search needs
 
--- src/lib.rt:115:23
 enum-known-i : tie.Need-enum-known-i
 enum-known-i c = search needs
 
--- src/lib.rt:116:29
 enum-told : tie.Need-enum-told
 enum-told c = search needs
 
--- src/lib.rt:116:12
 slot-count-requires : tie.Need-slot-count-requires
 slot-count-requires c κs = search needs
 
--- src/lib.rt:117:13
 add-slot-requires : tie.Need-add-slot-requires
 add-slot-requires c κs = search needs
 
--- src/lib.rt:118:13
 same-length : tie.Need-same-length
 same-length c = search needs
 
--- src/lib.rt:118:13
 returns : tie.Need-returns
 returns c = search slot-added
 
--- src/lib.rt:120:12
 frame-used-requires : tie.Need-frame-used-requires
 frame-used-requires c κs = search needs
 
--- src/lib.rt:121:13
 same-length-2 : tie.Need-same-length-2
 same-length-2 c = search needs
 
--- src/lib.rt:121:13
 returns-2 : tie.Need-returns-2
 returns-2 c = search slot-full
 
--- src/lib.rt:123:9
 same-length-3 : tie.Need-same-length-3
 same-length-3 c = search needs
 
--- src/lib.rt:123:9
 returns-3 : tie.Need-returns-3
 returns-3 c = search slot-free
 
--- src/lib.rt:125:5
 set-slot-value-requires : tie.Need-set-slot-value-requires
 set-slot-value-requires c κs = search needs
 
--- src/lib.rt:111:1
 same-length-4 : tie.Need-same-length-4
 same-length-4 c = search needs
 
--- src/lib.rt:111:1
 returns-4 : tie.Need-returns-4
 returns-4 c = search slot-set
 

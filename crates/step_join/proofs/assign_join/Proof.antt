@@ -12,75 +12,57 @@ use Rattle.tables.proofs.expression_a.Reads as expression-a-reads
 use Rattle.tables.proofs.expression_b.Reads as expression-b-reads
 use Rattle.tables.proofs.instruction_c.Reads as instruction-c-reads
 
--- src/lib.rt:290:9
 instruction-c-requires : tie.Need-instruction-c-requires
 instruction-c-requires c κs = search needs
 
--- src/lib.rt:291:44
 expression-a-requires : tie.Need-expression-a-requires
 expression-a-requires c κs = search needs
 
--- src/lib.rt:291:9
 operand-number-requires : tie.Need-operand-number-requires
 operand-number-requires c κs = search needs
 
--- src/lib.rt:293:9
 same-length : tie.Need-same-length
 same-length c = search needs
 
--- src/lib.rt:293:9
 returns : tie.Need-returns
 returns c = search number-first
 
--- src/lib.rt:295:44
 expression-b-requires : tie.Need-expression-b-requires
 expression-b-requires c κs = search needs
 
--- src/lib.rt:295:9
 operand-number-requires-2 : tie.Need-operand-number-requires-2
 operand-number-requires-2 c κs = search needs
 
--- src/lib.rt:297:9
 same-length-2 : tie.Need-same-length-2
 same-length-2 c = search needs
 
--- src/lib.rt:297:9
 returns-2 : tie.Need-returns-2
 returns-2 c = search number-second
 
--- src/lib.rt:299:9
 value-requires : tie.Need-value-requires
 value-requires c κs = search needs
 
--- src/lib.rt:300:9
 value-requires-2 : tie.Need-value-requires-2
 value-requires-2 c κs = search needs
 
--- src/lib.rt:301:9
 join-end-requires : tie.Need-join-end-requires
 join-end-requires c κs = search needs
 
--- src/lib.rt:303:9
 same-length-3 : tie.Need-same-length-3
 same-length-3 c = search needs
 
--- src/lib.rt:303:9
 returns-3 : tie.Need-returns-3
 returns-3 c = number-met _ _ _ _ _ (c .before .before .before .before .before .before .before .before .before .before .before .before .before .before .before .before .before .before .pre .0) _ (c .before .before .before .before .before .before .before .before .before .before .before .before .before .instruction-c .ensures) _ (c .before .before .before .before .before .before .before .before .before .before .before .expression-a .ensures) _ (c .before .before .before .before .before .before .before .before .before .before .operand-number .ensures) (c .before .before .before .before .before .before .before .before .before .if1 .left) _ (c .before .before .before .before .before .before .before .expression-b .ensures) _ (c .before .before .before .before .before .before .operand-number2 .ensures) (c .before .before .before .before .before .if2 .left) _ _ (c .before .before .before .before .value .ensures) (c .before .before .before .value2 .ensures) _ (c .before .join-end .ensures) (c .if3 .taken)
 
--- src/lib.rt:305:5
 put-join-requires : tie.Need-put-join-requires
 put-join-requires c κs = (number-on _ _ _ _ _ (c .before .before .before .before .before .before .before .before .before .before .before .before .before .before .before .before .before .before .before .before .pre .0) _ (c .before .before .before .before .before .before .before .before .before .before .before .before .before .before .before .instruction-c .ensures) _ (c .before .before .before .before .before .before .before .before .before .before .before .before .before .expression-a .ensures) _ (c .before .before .before .before .before .before .before .before .before .before .before .before .operand-number .ensures) (c .before .before .before .before .before .before .before .before .before .before .before .if1 .left) _ (c .before .before .before .before .before .before .before .before .before .expression-b .ensures) _ (c .before .before .before .before .before .before .before .before .operand-number2 .ensures) (c .before .before .before .before .before .before .before .if2 .left) _ _ (c .before .before .before .before .before .before .value .ensures) (c .before .before .before .before .before .value2 .ensures) _ (c .before .before .before .join-end .ensures) (c .before .before .if3 .left), search needs)
 
--- src/lib.rt:285:1
 same-length-4 : tie.Need-same-length-4
 same-length-4 c = search needs
 
--- src/lib.rt:285:1
 same-length-5 : tie.Need-same-length-5
 same-length-5 c = search needs
 
--- src/lib.rt:285:1
 returns-4 : tie.Need-returns-4
 returns-4 c = search needs
 

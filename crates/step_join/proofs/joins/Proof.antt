@@ -8,23 +8,18 @@ use Rattle.tables.proofs.expression_kind.Reads as expression-kind-reads
 use Rattle.tables.proofs.instruction_c.Reads as instruction-c-reads
 use Rattle.tables.proofs.instruction_kind.Reads as instruction-kind-reads
 
--- src/lib.rt:239:13
 instruction-kind-requires : tie.Need-instruction-kind-requires
 instruction-kind-requires c κs = search needs
 
--- src/lib.rt:240:9
 returns : tie.Need-returns
 returns c = search joins-other
 
--- src/lib.rt:242:32
 instruction-c-requires : tie.Need-instruction-c-requires
 instruction-c-requires c κs = search needs
 
--- src/lib.rt:242:5
 expression-kind-requires : tie.Need-expression-kind-requires
 expression-kind-requires c κs = search needs
 
--- src/lib.rt:236:1
 returns-2 : tie.Need-returns-2
 returns-2 c = search joins-by-kind
 

@@ -15,99 +15,75 @@ use Rattle.tables.proofs.instruction_a.Reads as instruction-a-reads
 use Rattle.tables.proofs.instruction_b.Reads as instruction-b-reads
 use Rattle.tables.proofs.instruction_kind.Reads as instruction-kind-reads
 
--- src/lib.rt:260:15
 instruction-kind-requires : tie.Need-instruction-kind-requires
 instruction-kind-requires c κs = search needs
 
--- src/lib.rt:261:9
 instruction-a-requires : tie.Need-instruction-a-requires
 instruction-a-requires c κs = search needs
 
--- src/lib.rt:262:9
 instruction-b-requires : tie.Need-instruction-b-requires
 instruction-b-requires c κs = search needs
 
--- src/lib.rt:264:13
 join-requires : tie.Need-join-requires
 join-requires c κs = (search can-join, search needs)
 
--- src/lib.rt:265:9
 set-root-requires : tie.Need-set-root-requires
 set-root-requires c κs = search needs
 
--- src/lib.rt:266:9
 go-on-requires : tie.Need-go-on-requires
 go-on-requires c κs = search needs
 
--- src/lib.rt:267:9
 same-length : tie.Need-same-length
 same-length c = search needs
 
--- src/lib.rt:267:9
 same-length-2 : tie.Need-same-length-2
 same-length-2 c = search needs
 
--- src/lib.rt:267:9
 returns : tie.Need-returns
 returns c = join-set _ _ _ _ _ _ _ (c .before .before .before .before .before .before .before .before .before .before .before .before .before .before .before .before .before .before .before .before .before .before .before .pre .0) _ _ _ (c .before .before .before .before .before .before .before .before .before .before .before .before .before .before .before .before .before .before .instruction-kind .ensures) (c .before .before .before .before .before .before .before .before .before .before .before .before .before .before .before .before .before .instruction-a .ensures) (c .before .before .before .before .before .before .before .before .before .before .before .before .before .before .before .before .instruction-b .ensures) (c .before .before .before .before .before .before .before .before .before .before .before .before .before .before .before .if1 .taken) _ _ _ (c .before .before .before .before .before .before .before .before .before .before .before .before .join .ensures) _ (c .before .before .before .before .before .before .set-root .ensures) _ (c .before .before .go-on .ensures)
 
--- src/lib.rt:269:57
 root-requires : tie.Need-root-requires
 root-requires c κs = search needs
 
--- src/lib.rt:269:34
 put-target-requires : tie.Need-put-target-requires
 put-target-requires c κs = search needs
 
--- src/lib.rt:269:23
 enum-known-f : tie.Need-enum-known-f
 enum-known-f c = search needs
 
--- src/lib.rt:270:9
 enum-told : tie.Need-enum-told
 enum-told c = search needs
 
--- src/lib.rt:270:9
 same-length-3 : tie.Need-same-length-3
 same-length-3 c = search needs
 
--- src/lib.rt:270:9
 returns-2 : tie.Need-returns-2
 returns-2 c = search join-nowhere
 
--- src/lib.rt:272:9
 slot-end-requires : tie.Need-slot-end-requires
 slot-end-requires c κs = search needs
 
--- src/lib.rt:274:9
 same-length-4 : tie.Need-same-length-4
 same-length-4 c = search needs
 
--- src/lib.rt:274:9
 returns-3 : tie.Need-returns-3
 returns-3 c = search join-full
 
--- src/lib.rt:276:9
 join-requires-2 : tie.Need-join-requires-2
 join-requires-2 c κs = (search can-join, search needs)
 
--- src/lib.rt:277:5
 put-slot-requires : tie.Need-put-slot-requires
 put-slot-requires c κs = search needs
 
--- src/lib.rt:278:5
 go-on-requires-2 : tie.Need-go-on-requires-2
 go-on-requires-2 c κs = search needs
 
--- src/lib.rt:246:1
 same-length-5 : tie.Need-same-length-5
 same-length-5 c = search needs
 
--- src/lib.rt:246:1
 same-length-6 : tie.Need-same-length-6
 same-length-6 c = search needs
 
--- src/lib.rt:246:1
 returns-4 : tie.Need-returns-4
 returns-4 c = join-put _ _ _ _ _ _ _ (c .before .before .before .before .before .before .before .before .before .before .before .before .before .before .before .before .before .before .before .before .before .before .before .before .before .before .before .before .before .before .before .before .pre .0) _ _ _ (c .before .before .before .before .before .before .before .before .before .before .before .before .before .before .before .before .before .before .before .before .before .before .before .before .before .before .before .instruction-kind .ensures) (c .before .before .before .before .before .before .before .before .before .before .before .before .before .before .before .before .before .before .before .before .before .before .before .before .before .before .instruction-a .ensures) (c .before .before .before .before .before .before .before .before .before .before .before .before .before .before .before .before .before .before .before .before .before .before .before .before .before .instruction-b .ensures) (c .before .before .before .before .before .before .before .before .before .before .before .before .before .before .before .before .before .before .before .before .before .before .before .before .if1 .left) _ (c .before .before .before .before .before .before .before .before .before .before .before .before .before .before .before .before .before .before .before .before .before .before .root .ensures) _ (c .before .before .before .before .before .before .before .before .before .before .before .before .before .before .before .before .before .before .before .before .before .put-target .ensures) _ _ (c .before .before .before .before .before .before .before .before .before .before .before .before .before .before .before .before .before .before .before .f .given .1) _ (c .before .before .before .before .before .before .before .before .before .before .before .before .before .before .before .before .slot-end .ensures) (c .before .before .before .before .before .before .before .before .before .before .before .before .before .before .before .if2 .left) _ _ _ (c .before .before .before .before .before .before .before .before .before .before .before .before .join2 .ensures) _ (c .before .before .before .before .before .before .put-slot .ensures) _ (c .before .before .go-on2 .ensures)
 

@@ -9,75 +9,57 @@ use Rattle.heap.proofs.set_position.Reads as set-position-reads
 use Rattle.heap.proofs.set_self.Reads as set-self-reads
 use Rattle.operands.proofs.operand.Reads as operand-reads
 
--- src/lib.rt:15:29
 operand-requires : tie.Need-operand-requires
 operand-requires c κs = search needs
 
--- src/lib.rt:15:24
 enum-known-v : tie.Need-enum-known-v
 enum-known-v c = search needs
 
--- src/lib.rt:16:9
 enum-told : tie.Need-enum-told
 enum-told c = search needs
 
--- src/lib.rt:16:9
 same-length : tie.Need-same-length
 same-length c = search needs
 
--- src/lib.rt:16:9
 returns : tie.Need-returns
 returns c = search jump-nothing
 
--- src/lib.rt:18:21
 enum-known-v-2 : tie.Need-enum-known-v-2
 enum-known-v-2 c = search needs
 
--- src/lib.rt:19:9
 same-length-2 : tie.Need-same-length-2
 same-length-2 c = search needs
 
--- src/lib.rt:19:9
 returns-2 : tie.Need-returns-2
 returns-2 c = search jump-other
 
--- src/lib.rt:21:29
 operand-requires-2 : tie.Need-operand-requires-2
 operand-requires-2 c κs = search needs
 
--- src/lib.rt:21:24
 enum-known-w : tie.Need-enum-known-w
 enum-known-w c = search needs
 
--- src/lib.rt:22:9
 enum-told-2 : tie.Need-enum-told-2
 enum-told-2 c = search needs
 
--- src/lib.rt:22:9
 same-length-3 : tie.Need-same-length-3
 same-length-3 c = search needs
 
--- src/lib.rt:22:9
 returns-3 : tie.Need-returns-3
 returns-3 c = search jump-no-self
 
--- src/lib.rt:24:5
 set-self-requires : tie.Need-set-self-requires
 set-self-requires c κs = search needs
 
--- src/lib.rt:25:27
 first-place-requires : tie.Need-first-place-requires
 first-place-requires c κs = search needs
 
--- src/lib.rt:25:5
 set-position-requires : tie.Need-set-position-requires
 set-position-requires c κs = search needs
 
--- src/lib.rt:11:1
 same-length-4 : tie.Need-same-length-4
 same-length-4 c = search needs
 
--- src/lib.rt:11:1
 returns-4 : tie.Need-returns-4
 returns-4 c = search jump-made
 

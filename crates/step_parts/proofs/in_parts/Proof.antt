@@ -10,71 +10,54 @@ use Rattle.commit.proofs.commit.Reads as commit-reads
 use Rattle.heap.proofs.set_end_mark.Reads as set-end-mark-reads
 use Rattle.step_parts.proofs.show.Reads as show-reads
 
--- src/lib.rt:86:9
 check-requires : tie.Need-check-requires
 check-requires c κs = search room-checks
 
--- src/lib.rt:88:9
 set-end-mark-requires : tie.Need-set-end-mark-requires
 set-end-mark-requires c κs = search needs
 
--- src/lib.rt:89:9
 same-length : tie.Need-same-length
 same-length c = search needs
 
--- src/lib.rt:89:9
 same-length-2 : tie.Need-same-length-2
 same-length-2 c = search needs
 
--- src/lib.rt:89:9
 returns : tie.Need-returns
 returns c = (search (parts-ended, words-fit {h = c .before .before .set-end-mark .last .0} (c .slice-known4 .given)), search ended-then-knows)
 
--- src/lib.rt:94:29
 show-requires : tie.Need-show-requires
 show-requires c κs = search attempt-shows
 
--- src/lib.rt:94:24
 enum-known-n : tie.Need-enum-known-n
 enum-known-n c = search needs
 
--- src/lib.rt:96:22
 enum-told : tie.Need-enum-told
 enum-told c = search needs
 
--- src/lib.rt:95:9
 same-length-3 : tie.Need-same-length-3
 same-length-3 c = search needs
 
--- src/lib.rt:95:9
 same-length-4 : tie.Need-same-length-4
 same-length-4 c = search needs
 
--- src/lib.rt:95:9
 same-length-5 : tie.Need-same-length-5
 same-length-5 c = search needs
 
--- src/lib.rt:95:9
 returns-2 : tie.Need-returns-2
 returns-2 c = (parts-no-space _ _ _ _ _ _ _ (c .before .before .before .before .before .before .before .before .before .before .before .before .before .before .before .before .before .pre .0) _ (c .before .before .before .before .before .before .before .before .before .before .before .before .before .before .before .before .before .pre .1 .1) _ (c .before .before .before .before .before .before .before .before .before .check .ensures) (c .before .before .before .before .before .before .before .before .if1 .left) _ _ (c .before .before .before .before .show .ensures) (search needs) (words-fit (c .before .before .before .before .before .before .before .before .before .before .before .before .before .before .slice-known .given)), search room-knows)
 
--- src/lib.rt:100:5
 commit-requires : tie.Need-commit-requires
 commit-requires c κs = (search room-commits, search room-full)
 
--- src/lib.rt:71:1
 same-length-6 : tie.Need-same-length-6
 same-length-6 c = search needs
 
--- src/lib.rt:71:1
 same-length-7 : tie.Need-same-length-7
 same-length-7 c = search needs
 
--- src/lib.rt:71:1
 same-length-8 : tie.Need-same-length-8
 same-length-8 c = search needs
 
--- src/lib.rt:71:1
 returns-3 : tie.Need-returns-3
 returns-3 c = (search (parts-made, words-fit {h = c .before .before .before .before .commit .last .1 .1 .0} (c .before .before .slice-known6 .given)), search made-then-knows)
 

@@ -9,31 +9,27 @@ use Rattle.needs.proofs.needed.Reads as needed-reads
 use Rattle.needs.proofs.texts.Reads as texts-reads
 use Rattle.reserving.proofs.reserve.Reads as reserve-reads
 
--- src/lib.rt:37:9
 needed-requires : tie.Need-needed-requires
 needed-requires c κs = search needs
 
--- src/lib.rt:39:9
 returns : tie.Need-returns
-returns c = (search reserve-nothing, search reckons-nothing)
+returns c = (
+  reserve-nothing _ _ _ (c .before .before .before .before .pre .0) _ (c .before .needed .ensures) (c .if1 .taken),
+  reckons-nothing _ _ _ (c .before .before .before .before .pre .0) _ (c .before .needed .ensures) (c .if1 .taken) _ (c .before .before .before .before .pre .1),
+)
 
--- src/lib.rt:41:30
 frames-requires : tie.Need-frames-requires
 frames-requires c κs = search needs
 
--- src/lib.rt:41:48
 texts-requires : tie.Need-texts-requires
 texts-requires c κs = search needs
 
--- src/lib.rt:41:5
 reserve-requires : tie.Need-reserve-requires
 reserve-requires c κs = search needs
 
--- src/lib.rt:31:1
 same-length : tie.Need-same-length
 same-length c = search needs
 
--- src/lib.rt:31:1
 returns-2 : tie.Need-returns-2
 returns-2 c = (search reserve-counted, search reckons-counted)
 

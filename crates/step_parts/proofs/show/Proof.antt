@@ -9,43 +9,33 @@ use Rattle.line.proofs.write_line.Reads as write-line-reads
 use Rattle.producing.proofs.given.Reads as given-reads
 use Rattle.tables.proofs.instruction_at.Reads as instruction-at-reads
 
--- src/lib.rt:57:37
 instruction-at-requires : tie.Need-instruction-at-requires
 instruction-at-requires c κs = search needs
 
--- src/lib.rt:57:32
 enum-known-a : tie.Need-enum-known-a
 enum-known-a c = search needs
 
--- src/lib.rt:58:9
 returns : tie.Need-returns
 returns c = search show-none
 
--- src/lib.rt:60:9
 given-requires : tie.Need-given-requires
 given-requires c κs = search needs
 
--- src/lib.rt:61:9
 line-size-requires : tie.Need-line-size-requires
 line-size-requires c κs = search needs
 
--- src/lib.rt:62:8
 sub-if1 : tie.Need-sub-if1
 sub-if1 c = search needs
 
--- src/lib.rt:63:9
 returns-2 : tie.Need-returns-2
 returns-2 c = search show-too-long
 
--- src/lib.rt:65:5
 write-line-requires : tie.Need-write-line-requires
 write-line-requires c κs = search needs
 
--- src/lib.rt:45:1
 same-length : tie.Need-same-length
 same-length c = search needs
 
--- src/lib.rt:45:1
 returns-3 : tie.Need-returns-3
 returns-3 c = search show-written
 

@@ -8,27 +8,21 @@ use Rattle.heap.proofs.end_mark.Reads as end-mark-reads
 use Rattle.heap.proofs.position.Reads as position-reads
 use Rattle.stops.proofs.stop_of.Reads as stop-of-reads
 
--- src/lib.rt:38:9
 end-mark-requires : tie.Need-end-mark-requires
 end-mark-requires c κs = search needs
 
--- src/lib.rt:40:9
 stop-of-requires : tie.Need-stop-of-requires
 stop-of-requires c κs = search needs
 
--- src/lib.rt:40:9
 returns : tie.Need-returns
 returns c = search here-marked
 
--- src/lib.rt:42:8
 position-requires : tie.Need-position-requires
 position-requires c κs = search needs
 
--- src/lib.rt:43:9
 returns-2 : tie.Need-returns-2
 returns-2 c = search here-done
 
--- src/lib.rt:35:1
 returns-3 : tie.Need-returns-3
 returns-3 c = search here-fuel
 

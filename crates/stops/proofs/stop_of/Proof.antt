@@ -4,35 +4,27 @@ use Rattle.stops.proofs.stop_of.Tie as tie
 use Rattle.stops.proofs.stop_of.Reads as reads
 use Rattle.stops.proofs.stop_of.Lts as lts
 
--- src/lib.rt:11:9
 returns : tie.Need-returns
 returns c = search stop-done
 
--- src/lib.rt:14:9
 returns-2 : tie.Need-returns-2
 returns-2 c = search stop-31
 
--- src/lib.rt:17:9
 returns-3 : tie.Need-returns-3
 returns-3 c = search stop-32
 
--- src/lib.rt:20:9
 returns-4 : tie.Need-returns-4
 returns-4 c = search stop-33
 
--- src/lib.rt:23:9
 returns-5 : tie.Need-returns-5
 returns-5 c = search stop-34
 
--- src/lib.rt:26:9
 returns-6 : tie.Need-returns-6
 returns-6 c = search stop-35
 
--- src/lib.rt:29:9
 returns-7 : tie.Need-returns-7
 returns-7 c = search stop-36
 
--- src/lib.rt:7:1
 returns-8 : tie.Need-returns-8
 returns-8 c = search stop-37
 

@@ -6,7 +6,6 @@ use Rattle.sums.proofs.closed.Tie as tie
 returns : tie.Need-returns
 returns c = search closed-inside
 
--- src/lib.rt:45:5
 one-less-requires : tie.Need-one-less-requires
 one-less-requires c κs = search needs
 

@@ -5,15 +5,12 @@ use Rattle.survey.proofs.count_after.Tie as tie
 use Rattle.survey.proofs.count_after.Reads as reads
 use Rattle.survey.proofs.count_after.Lts as lts
 
--- src/lib.rt:57:16
 add-result : tie.Need-add-result
 add-result c = search needs
 
--- src/lib.rt:57:9
 returns : tie.Need-returns
 returns c = search count-next
 
--- src/lib.rt:52:1
 returns-2 : tie.Need-returns-2
 returns-2 c = search count-same
 

@@ -6,11 +6,9 @@ use Rattle.survey.proofs.found.Reads as reads
 use Rattle.survey.proofs.found.Lts as lts
 use Rattle.sums.proofs.sums_of.Reads as sums-of-reads
 
--- src/lib.rt:65:9
 sums-of-requires : tie.Need-sums-of-requires
 sums-of-requires c κs = search needs
 
--- src/lib.rt:62:1
 returns : tie.Need-returns
 returns c = search found-is
 

@@ -9,35 +9,27 @@ use Rattle.names.proofs.number.Reads as number-reads
 use Rattle.token_cache.proofs.store.Reads as store-reads
 use Rattle.token_cache.proofs.store_name.Reads as store-name-reads
 
--- src/lib.rt:42:17
 number-requires : tie.Need-number-requires
 number-requires c κs = (take-few _ _ _ _ _ _ _ _ _ _ _ (c .before .before .before .before .before .before .before .before .pre) (search needs), (take-marked _ _ _ _ _ _ _ _ _ _ _ (c .before .before .before .before .before .before .before .before .pre) (search needs), search take-numbered))
 
--- src/lib.rt:43:56
 add-store-name : tie.Need-add-store-name
 add-store-name c = search (needs, take-small _ _ _ _ _ _ _ _ _ _ _ (c .before .before .before .before .before .before .before .before .before .before .before .before .before .before .pre) _ _ _ _ (search needs) (c .before .before .before .before .before .number .ensures))
 
--- src/lib.rt:43:13
 store-name-requires : tie.Need-store-name-requires
 store-name-requires c κs = search take-store
 
--- src/lib.rt:44:13
 same-length : tie.Need-same-length
 same-length c = search needs
 
--- src/lib.rt:44:13
 same-length-2 : tie.Need-same-length-2
 same-length-2 c = search needs
 
--- src/lib.rt:44:13
 returns : tie.Need-returns
 returns c = (search needs, taken-name _ _ _ _ _ _ _ _ _ _ _ (c .before .before .before .before .before .before .before .before .before .before .before .before .before .before .before .pre) _ _ _ _ (search needs) (c .before .before .before .before .before .before .number .ensures) (search (c .before .before .before .before .before .before .before .before .before .before .before .if1 .taken)) _ (c .store-name .ensures .0) (c .store-name .ensures .1 .1))
 
--- src/lib.rt:47:5
 store-requires : tie.Need-store-requires
 store-requires c κs = search needs
 
--- src/lib.rt:23:1
 returns-2 : tie.Need-returns-2
 returns-2 c = (search needs, ⊎-elim (λ w. search taken-many) (λ w. search taken-other) (c .before .before .if1 .came))
 

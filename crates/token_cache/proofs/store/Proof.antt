@@ -6,11 +6,9 @@ use Rattle.token_cache.proofs.store.Reads as reads
 use Rattle.token_cache.proofs.store.Lts as lts
 use Rattle.token_cache.proofs.set_entry.Reads as set-entry-reads
 
--- src/lib.rt:101:5
 set-entry-requires : tie.Need-set-entry-requires
 set-entry-requires c κs = search store-packs
 
--- src/lib.rt:96:1
 returns : tie.Need-returns
 returns c = (search needs, (search stored, search stored-notes))
 

@@ -6,11 +6,9 @@ use Rattle.token_cache.proofs.store_name.Reads as reads
 use Rattle.token_cache.proofs.store_name.Lts as lts
 use Rattle.token_cache.proofs.set_entry.Reads as set-entry-reads
 
--- src/lib.rt:110:5
 set-entry-requires : tie.Need-set-entry-requires
 set-entry-requires c κs = search store-packs
 
--- src/lib.rt:105:1
 returns : tie.Need-returns
 returns c = (search needs, (search name-stored, search name-notes))
 

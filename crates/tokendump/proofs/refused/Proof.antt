@@ -6,27 +6,21 @@ use Rattle.tokendump.proofs.refused.Reads as reads
 use Rattle.tokendump.proofs.refused.Lts as lts
 use Rattle.survey.proofs.survey.Reads as survey-reads
 
--- src/main.rt:65:9
 returns : tie.Need-returns
 returns c = search needs
 
--- src/main.rt:72:43
 slice-aggregate-survey : tie.Need-slice-aggregate-survey
 slice-aggregate-survey c = search needs
 
--- src/main.rt:72:56
 slice-aggregate-survey-2 : tie.Need-slice-aggregate-survey-2
 slice-aggregate-survey-2 c = search needs
 
--- src/main.rt:72:79
 slice-aggregate-survey-3 : tie.Need-slice-aggregate-survey-3
 slice-aggregate-survey-3 c = search needs
 
--- src/main.rt:72:9
 survey-requires : tie.Need-survey-requires
 survey-requires c κs = (record { short = search needs }, (search fresh, (search fresh-unnoted, (search needs, search needs))))
 
--- src/main.rt:63:1
 returns-2 : tie.Need-returns-2
 returns-2 c = search needs
 
