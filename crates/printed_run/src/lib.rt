@@ -2,11 +2,9 @@
 use framed::CollectAnswer;
 use framed::RunAnswer;
 ghost use mathlib.Core.Path.{_≡_};
-ghost use Prim.Native.Nat.{_≤_};
-ghost use lib.ListN.{length};
+ghost use lib.ListN.{take};
 ghost use Rattle.framed.specs.Framerun.{framerun};
 ghost use Rattle.printing.specs.Lines.{Appends};
-ghost use Rattle.printed_run.specs.Longest.{longest};
 
 // Loads with F = T = 256, runs once with fuel 100000 over 4,096 bytes, collects; the print goes to the front of `out`, what lies past its end is dropped, and
 // the answer is how many bytes the print has.
@@ -32,12 +30,17 @@ fn write_print(source: &[u8], out: &mut [u8]) -> usize
     printing::print_ran(out, &shown, report, totals)
 }
 
-// The print, as the front part of a buffer that is long enough for every print.
-pub fn print<'a>(source: &[u8], out: &'a mut [u8]) -> &'a [u8]
-    requires { ⌜ longest ≤ length (now out) ⌝ }
+// The first n bytes of the buffer, or all where there are fewer.
+fn front<'a>(out: &'a [u8; 4140], n: usize) -> &'a [u8]
+    ensures { λ r. ⌜ now r ≡ take n (now (out .entry)) ⌝ }
+{
+    printing::front(out, n)
+}
+
+// The print, as the front part of an array that is long enough for every print.
+pub fn print<'a>(source: &[u8], out: &'a mut [u8; 4140]) -> &'a [u8]
     ensures { λ r. ⌜ now r ≡ framerun (now (source .entry)) ⌝ }
 {
     let n = write_print(source, out);
-    let whole = &out[..];
-    printing::front(whole, n)
+    front(out, n)
 }
