@@ -8,7 +8,7 @@ use borrow.Author.Tests.{eq-eqb, ne-eqb}
 use Rattle.framed.specs.Symbols.{Symbol}
 use Rattle.framed.specs.Tree.{Written}
 use Rattle.framed.specs.Grammar.{Path⊢}
-use Rattle.framed.specs.Paths.{Path, names-of, resolve-path}
+use Rattle.framed.specs.Paths.{names-of, resolve-path}
 use Rattle.sweep.specs.Kinds.{kind-of, front-kind}
 use Rattle.token.specs.Reading.{fixed-kind}
 use Rattle.grammar.specs.Runs.{Sees}

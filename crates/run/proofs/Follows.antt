@@ -15,7 +15,7 @@ use Rattle.heap.specs.Words.{position, end-mark}
 use Rattle.splice.specs.Splice.{splice}
 use Rattle.splice.proofs.Laws.{splice-length, splice-append}
 use Rattle.wellformed.specs.WellFormed.{limits, WellFormed, Formed}
-use Rattle.bounded.specs.Bounded.{Bounded, stopped, one-more}
+use Rattle.bounded.specs.Bounded.{stopped, one-more}
 use Rattle.bounded.specs.Bounded as bounded
 use Rattle.bounded.specs.Theorems.{RunWays}
 use Rattle.bounded.proofs.Runs.{run-ways}

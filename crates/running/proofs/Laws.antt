@@ -13,7 +13,6 @@ use Rattle.wellformed.specs.WellFormed.{WellFormed, limits}
 use Rattle.wellformed.specs.Held as memories
 use Rattle.allocation.specs.Allocation.{view-held}
 use Rattle.bounded.specs.Views.{entries}
-use Rattle.bounded.specs.Bounded.{Bounded}
 use Rattle.bounded.specs.Bounded as bounded
 use Rattle.bounded.specs.Relation as relation
 use Rattle.bounded.proofs.Theorems.{simulation, bounded-calls}

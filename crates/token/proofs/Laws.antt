@@ -11,7 +11,7 @@ use lib.Signed.{mag}
 use borrow.Author.Tests.{eqb-true, eq-eqb, ne-eqb, lt-ltb, le-ltb, le-leb, lt-leb}
 use Rattle.framed.specs.Common.{Common, if_then_else_, bytes, same, while, past-first}
 use Rattle.framed.specs.Bytes.{Bytes, Classes, class, digit}
-use Rattle.framed.specs.Tokens.{Token, Fixed, Operator, Read, end, no-token, token, skip, number, word, read-name, read-integer, read-string, read-mark, two-bytes, read, next}
+use Rattle.framed.specs.Tokens.{Token, Fixed, Operator, Read, no-token, token, skip, number, word, read-name, read-integer, read-string, read-mark, two-bytes, read, next}
 use Rattle.source.specs.Positions.{rest, byte, part, At}
 use Rattle.source.proofs.Positions.{rest-at, rest-end, length-part, part-none, starts-at, past-rest, before-end}
 use Rattle.spaces.specs.Spaces.{Skips}
