@@ -1,6 +1,5 @@
 // For each source that the file `index` names: the name, and its printed run.
-ghost use lib.ListN.{length};
-ghost use Rattle.framecorpus.specs.Lines.{Begins, Ends};
+use input::Input;
 use libc::STDOUT_FILENO;
 
 fn print_run(source: &[u8]) {
@@ -9,38 +8,20 @@ fn print_run(source: &[u8]) {
 }
 
 fn run_file(name: &[u8]) {
-    let fd = os::open_read(name);
-    if fd < 0 {
+    let mut source = [0u8; 16385];
+    let Input::Bytes(n) = input::read_file(name, &mut source) else {
         os::fail(name);
         return;
-    }
-    let mut buffer = io::large_buffer();
-    let n = io::read_full(fd, &mut buffer);
-    libc::close(fd);
+    };
     io::write_all(STDOUT_FILENO, name);
     io::write_all(STDOUT_FILENO, b"\n");
-    print_run(&buffer[..n]);
-}
-
-// Where the line that begins there ends.
-fn line_end(index: &[u8], at: usize) -> usize
-    requires { ⌜ Begins at (length (now index)) ⌝ }
-    ensures { λ r. ⌜ Ends at (length (now (index .entry))) r ⌝ }
-{
-    let mut i = at;
-    while i < index.len() {
-        if index[i] == 10 {
-            return i;
-        }
-        i += 1;
-    }
-    i
+    print_run(printing::front(&source, n));
 }
 
 fn run_files(index: &[u8]) {
     let mut at = 0;
     while at < index.len() {
-        let end = line_end(index, at);
+        let end = lines::line_end(index, at);
         run_file(&index[at..end]);
         if end == index.len() {
             return;
@@ -50,13 +31,10 @@ fn run_files(index: &[u8]) {
 }
 
 fn main() {
-    let fd = os::open_read(b"index");
-    if fd < 0 {
+    let mut index = io::large_buffer();
+    let Input::Bytes(n) = input::read_file(b"index", &mut index) else {
         os::fail(b"index");
         return;
-    }
-    let mut buffer = io::large_buffer();
-    let n = io::read_full(fd, &mut buffer);
-    libc::close(fd);
-    run_files(&buffer[..n]);
+    };
+    run_files(printing::front(&index, n));
 }

@@ -1,10 +1,17 @@
-// Reads a source from standard input, to its end or one byte past the longest, and prints its run.
+// Reads a source from standard input, to its end or one byte past the longest, and prints its run. Where it cannot be read, nothing is printed.
+use input::Input;
 use libc::STDIN_FILENO;
 use libc::STDOUT_FILENO;
 
 fn main() {
     let mut source = [0u8; 16385];
-    let n = io::read_full(STDIN_FILENO, &mut source);
+    let Input::Bytes(n) = input::read_all(STDIN_FILENO, &mut source) else {
+        os::fail(b"standard input");
+        return;
+    };
     let mut out = [0u8; 4140];
-    io::write_all(STDOUT_FILENO, printed_run::print(&source[..n], &mut out));
+    io::write_all(
+        STDOUT_FILENO,
+        printed_run::print(printing::front(&source, n), &mut out),
+    );
 }

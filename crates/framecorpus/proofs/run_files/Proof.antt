@@ -11,37 +11,9 @@ Inv-loop index at₀ at = Unit {0}
 abbrev μ-loop : tie.MeasureT-loop
 μ-loop index at₀ at = length index - at
 
-loop-holds : tie.Need-loop-holds Inv-loop μ-loop
-loop-holds c = tt
-
-line-end-requires : tie.Need-line-end-requires Inv-loop μ-loop
-line-end-requires c κs = record { inside = omega arith }
-
-sub-run-file : tie.Need-sub-run-file Inv-loop μ-loop
-sub-run-file c = omega arith
-
-part-run-file-start : tie.Need-part-run-file-start Inv-loop μ-loop
-part-run-file-start c = omega arith
-
-part-run-file-end : tie.Need-part-run-file-end Inv-loop μ-loop
-part-run-file-end c = omega arith
-
-returns : tie.Need-returns Inv-loop μ-loop
-returns c = tt
-
-add-at : tie.Need-add-at Inv-loop μ-loop
-add-at c = omega arith
-
-loop-less : tie.Need-loop-less Inv-loop μ-loop
-loop-less c = omega arith
-
-loop-again : tie.Need-loop-again Inv-loop μ-loop
-loop-again c = tt
-
-returns-2 : tie.Need-returns-2 Inv-loop μ-loop
-returns-2 c = tt
-
 pub run-files-spec : {M : Type 1} → statement M
 run-files-spec =
     tie.close
-    (tie.spec Inv-loop μ-loop loop-holds line-end-requires sub-run-file part-run-file-start part-run-file-end (λ c κs. search needs) returns add-at loop-less loop-again returns-2)
+    (tie.spec
+    Inv-loop μ-loop (λ c. tt) (λ c κs. search needs) (λ c. omega arith) (λ c. omega arith) (λ c. omega arith) (λ c κs. search needs)
+    (λ c. search needs) (λ c. omega arith) (λ c. omega arith) (λ c. tt) (λ c. search needs))

@@ -1,0 +1,39 @@
+// For each script that the file `index` names: the name, and what its replay on cleared memories prints.
+use input::Input;
+use libc::STDOUT_FILENO;
+
+fn replay_file(name: &[u8]) {
+    let mut script = [0u8; 65537];
+    let Input::Bytes(n) = input::read_file(name, &mut script) else {
+        os::fail(name);
+        return;
+    };
+    io::write_all(STDOUT_FILENO, name);
+    io::write_all(STDOUT_FILENO, b"\n");
+    let mut p = [0u32; 16384];
+    let mut h = [0u32; 16384];
+    let mut l = [0u8; 8192];
+    let mut t = [0u8; 16384];
+    replaying::replay(printing::front(&script, n), &mut p, &mut h, &mut l, &mut t);
+}
+
+fn replay_files(index: &[u8]) {
+    let mut at = 0;
+    while at < index.len() {
+        let end = lines::line_end(index, at);
+        replay_file(&index[at..end]);
+        if end == index.len() {
+            return;
+        }
+        at = end + 1;
+    }
+}
+
+fn main() {
+    let mut index = io::large_buffer();
+    let Input::Bytes(n) = input::read_file(b"index", &mut index) else {
+        os::fail(b"index");
+        return;
+    };
+    replay_files(printing::front(&index, n));
+}

@@ -1,0 +1,276 @@
+// The calls of a script: each is made on the lent memories, and its answer printed.
+use framed::CollectAnswer;
+use framed::LookAnswer;
+use framed::RunAnswer;
+use framed::RunReport;
+use input::Input;
+use libc::STDOUT_FILENO;
+use script::Call;
+use script::Script;
+use token::TokenRead;
+
+fn put(text: &[u8]) {
+    io::write_all(STDOUT_FILENO, text);
+}
+
+fn put_number(n: u32) {
+    io::print_decimal(STDOUT_FILENO, n as u64);
+}
+
+fn put_refused(n: u32) {
+    put(b"refused ");
+    put_number(n);
+    put(b"\n");
+}
+
+// What cannot be taken is printed behind a `?`.
+pub fn put_unfit(text: &[u8]) {
+    put(b"? ");
+    put(text);
+    put(b"\n");
+}
+
+// ---- The calls. A call answers whether the script goes on.
+
+fn put_loaded(number: u32) {
+    if number == 0 {
+        put(b"loaded\n");
+        return;
+    }
+    put_refused(number);
+}
+
+// A file that cannot be opened or read leaves the memories of an earlier load: so it is named, and no further call is made.
+fn load_call(
+    name: &[u8],
+    frames: u32,
+    texts: u32,
+    p: &mut [u32; 16384],
+    h: &mut [u32; 16384],
+    l: &mut [u8; 8192],
+    t: &mut [u8; 16384],
+) -> bool {
+    let mut source = [0u8; 16385];
+    let Input::Bytes(n) = input::read_file(name, &mut source) else {
+        os::fail(name);
+        put_unfit(name);
+        return false;
+    };
+    let answer = load::load(printing::front(&source, n), frames, texts, p, h, l, t);
+    put_loaded(answers::load_number(answer));
+    true
+}
+
+fn put_stop(number: u32) {
+    if number == 1 {
+        put(b"fuel");
+        return;
+    }
+    if number == 2 {
+        put(b"output");
+        return;
+    }
+    put_number(number);
+}
+
+fn put_report(out: &[u8], report: RunReport) {
+    let n = report.bytes;
+    put(printing::front(out, n));
+    put(b"run ");
+    let stop = report.stop;
+    put_stop(answers::stop_number(stop));
+    put(b" steps ");
+    put_number(report.steps);
+    put(b" bytes ");
+    io::print_decimal(STDOUT_FILENO, n as u64);
+    put(b"\n");
+}
+
+fn run_slice(
+    p: &[u32; 16384],
+    h: &mut [u32; 16384],
+    l: &[u8; 8192],
+    t: &mut [u8; 16384],
+    fuel: u32,
+    out: &mut [u8],
+) {
+    let answer = run::run(p, h, l, t, fuel, out);
+    match answer {
+        RunAnswer::Stopped(report) => put_report(out, report),
+        RunAnswer::NotWellFormed => put_refused(answers::run_number(answer)),
+    }
+}
+
+fn run_call(
+    p: &[u32; 16384],
+    h: &mut [u32; 16384],
+    l: &[u8; 8192],
+    t: &mut [u8; 16384],
+    fuel: u32,
+    space: u32,
+) -> bool {
+    let mut out = io::buffer();
+    let n = words::wide(space);
+    if n <= 4096 {
+        run_slice(p, h, l, t, fuel, &mut out[..n]);
+    }
+    true
+}
+
+fn collect_call(p: &[u32; 16384], h: &mut [u32; 16384], l: &[u8; 8192], t: &[u8; 16384]) -> bool {
+    let answer = collect::collect(p, h, l, t);
+    let CollectAnswer::Collected(totals) = answer else {
+        put_refused(answers::collect_number(answer));
+        return true;
+    };
+    put(b"collect frames ");
+    put_number(totals.frames);
+    put(b" texts ");
+    put_number(totals.texts);
+    put(b"\n");
+    true
+}
+
+fn put_integer(n: i32) {
+    put(b"look integer ");
+    let mut bytes = [0u8; 11];
+    let start = decimal::decimal(&mut bytes, n);
+    put(&bytes[start..]);
+    put(b"\n");
+}
+
+fn put_text(text: &[u8]) {
+    put(b"look text ");
+    put(text);
+    put(b"\n");
+}
+
+fn look_call<'a>(
+    p: &[u32; 16384],
+    h: &[u32; 16384],
+    l: &'a [u8; 8192],
+    t: &'a [u8; 16384],
+    path: &[u8],
+) -> bool {
+    let answer = look::look(p, h, l, t, path);
+    match answer {
+        LookAnswer::Integer(n) => put_integer(n),
+        LookAnswer::Text => put_text(look::look_text(p, h, l, t, path)),
+        LookAnswer::Code => put(b"look code\n"),
+        LookAnswer::Frame => put(b"look frame\n"),
+        _ => put_refused(answers::look_number(answer)),
+    }
+    true
+}
+
+// ---- The script
+
+fn make_call(
+    s: &[u8],
+    call: Call,
+    p: &mut [u32; 16384],
+    h: &mut [u32; 16384],
+    l: &mut [u8; 8192],
+    t: &mut [u8; 16384],
+) -> bool {
+    match call {
+        Call::Load(begin, end, frames, texts) => {
+            load_call(
+                token::string_bytes(s, begin, end),
+                frames,
+                texts,
+                p,
+                h,
+                l,
+                t,
+            )
+        }
+        Call::Run(fuel, space) => run_call(p, h, l, t, fuel, space),
+        Call::Collect => collect_call(p, h, l, t),
+        Call::Look(begin, end) => look_call(p, h, l, t, token::string_bytes(s, begin, end)),
+    }
+}
+
+// What is to be done where the script has come to it: a complete call is made, a token that does not fit printed.
+fn act(
+    s: &[u8],
+    script: Script,
+    p: &mut [u32; 16384],
+    h: &mut [u32; 16384],
+    l: &mut [u8; 8192],
+    t: &mut [u8; 16384],
+) -> bool {
+    match script {
+        Script::Name => true,
+        Script::Open(_argument) => true,
+        Script::Complete(call) => make_call(s, call, p, h, l, t),
+        Script::Unfit(begin, end) => {
+            put_unfit(token::token_bytes(s, begin, end));
+            true
+        }
+    }
+}
+
+// At the end of the script: a call that is not complete, from its name on.
+fn put_open(s: &[u8], script: Script, call: usize, end: usize) {
+    if script::is_open(script) {
+        put_unfit(token::token_bytes(s, call, end));
+    }
+}
+
+// Where the call begins that a token belongs to.
+fn call_begin(script: Script, call: usize, begin: usize) -> usize {
+    if script::is_open(script) {
+        return call;
+    }
+    begin
+}
+
+// Makes the calls one after the other.
+fn make_calls(
+    s: &[u8],
+    p: &mut [u32; 16384],
+    h: &mut [u32; 16384],
+    l: &mut [u8; 8192],
+    t: &mut [u8; 16384],
+) {
+    let mut script = Script::Name;
+    let mut call = 0;
+    let mut at = 0;
+    while at < s.len() {
+        match token::token_at(s, at) {
+            TokenRead::End => {
+                put_open(s, script, call, at);
+                return;
+            }
+            TokenRead::NoToken => {
+                put_unfit(b"no token");
+                return;
+            }
+            TokenRead::Token(kind, begin, end, word) => {
+                call = call_begin(script, call, begin);
+                script = script::after_token(s, script, kind, begin, end, word);
+                if !act(s, script, p, h, l, t) {
+                    return;
+                }
+                at = end;
+            }
+        }
+    }
+    put_open(s, script, call, at);
+}
+
+// Replays a script. One that is too long is refused before any call.
+pub fn replay(
+    s: &[u8],
+    p: &mut [u32; 16384],
+    h: &mut [u32; 16384],
+    l: &mut [u8; 8192],
+    t: &mut [u8; 16384],
+) {
+    if s.len() > 65536 {
+        put_unfit(b"script longer than 65536 bytes");
+        return;
+    }
+    make_calls(s, p, h, l, t);
+}
