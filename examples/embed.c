@@ -1,61 +1,49 @@
 /* Loads a model from a file, runs it in slices of fuel, collects between them, and looks at its verdict.
  *
- *   rt staticlib framed_c
+ *   make library
  *   cc -O2 -Iinclude examples/embed.c target/staticlib/libframed_c.a -o target/embed
  *   target/embed examples/drive.framed self.faults
+ *
+ * Exit status: 0 the model is done, 1 it does not load, 2 bad usage, 3 it ends by a number or does not end.
  */
 #include "framed.h"
 #include <stdio.h>
-#include <string.h>
 
 /* one machine is its four memories */
-static uint32_t program[FRAMED_PROGRAM_WORDS];
-static uint32_t heap[FRAMED_HEAP_WORDS];
-static uint8_t literals[FRAMED_LITERAL_BYTES];
-static uint8_t texts[FRAMED_TEXT_BYTES];
+static struct framed_memories model;
 
 static int load(const char *name) {
-    static uint8_t source[FRAMED_SOURCE_BYTES + 1];
+    static uint8_t source[FRAMED_SOURCE_BYTES + 1]; /* one byte more, so that a longer file is refused and not cut */
     FILE *file = fopen(name, "rb");
     if (!file) {
         perror(name);
         return 0;
     }
     size_t length = fread(source, 1, sizeof source, file);
+    int unread = ferror(file);
+    if (unread)
+        perror(name);
     fclose(file);
+    if (unread)
+        return 0;
     /* 40 frames and 8 made texts are enough for this model, as dead ones are collected */
-    uint32_t refused = framed_load(source, length, 40, 8, program, FRAMED_PROGRAM_WORDS, heap, FRAMED_HEAP_WORDS,
-                                   literals, FRAMED_LITERAL_BYTES, texts, FRAMED_TEXT_BYTES);
+    uint32_t refused = framed_memories_load(&model, source, length, 40, 8);
     if (refused)
-        fprintf(stderr, "%s: refused %u\n", name, refused);
+        fprintf(stderr, "%s: refused %u: %s\n", name, (unsigned)refused, framed_message(refused));
     return !refused;
 }
 
-/* one slice: what it shows goes to standard output */
-static uint32_t run(uint32_t fuel, uint32_t *steps) {
-    uint8_t out[1024];
-    size_t bytes = 0;
-    uint32_t stop = framed_run(program, FRAMED_PROGRAM_WORDS, heap, FRAMED_HEAP_WORDS, literals, FRAMED_LITERAL_BYTES,
-                               texts, FRAMED_TEXT_BYTES, fuel, out, sizeof out, steps, &bytes);
-    fwrite(out, 1, bytes, stdout);
-    return stop;
-}
-
 static void look(const char *path) {
-    const uint8_t *text = (const uint8_t *)path;
     int32_t number = 0;
-    uint8_t bytes[64];
-    size_t length;
-    uint32_t kind = framed_look(program, FRAMED_PROGRAM_WORDS, heap, FRAMED_HEAP_WORDS, literals, FRAMED_LITERAL_BYTES,
-                                texts, FRAMED_TEXT_BYTES, text, strlen(path), &number);
+    char text[FRAMED_LINE_BYTES]; /* a text has at most 64 bytes */
+    uint32_t kind = framed_memories_look(&model, path, &number);
     switch (kind) {
     case FRAMED_INTEGER:
-        printf("%s is %d\n", path, number);
+        printf("%s is %d\n", path, (int)number);
         break;
     case FRAMED_TEXT:
-        length = framed_look_text(program, FRAMED_PROGRAM_WORDS, heap, FRAMED_HEAP_WORDS, literals, FRAMED_LITERAL_BYTES,
-                                  texts, FRAMED_TEXT_BYTES, text, strlen(path), bytes, sizeof bytes);
-        printf("%s is \"%.*s\"\n", path, (int)length, (const char *)bytes);
+        text[framed_memories_look_text(&model, path, text, sizeof text)] = 0;
+        printf("%s is \"%s\"\n", path, text);
         break;
     case FRAMED_CODE:
         printf("%s is a code\n", path);
@@ -64,7 +52,7 @@ static void look(const char *path) {
         printf("%s is a frame\n", path);
         break;
     default:
-        printf("%s: refused %u\n", path, kind);
+        printf("%s: refused %u: %s\n", path, (unsigned)kind, framed_message(kind));
     }
 }
 
@@ -76,20 +64,27 @@ int main(int argc, char **argv) {
     if (!load(argv[1]))
         return 1;
 
-    uint32_t stop, steps, frames, reached_texts, slices = 0;
+    uint32_t stop, slices = 0;
     unsigned long total = 0;
     do {
-        steps = 0;
-        stop = run(500, &steps);
+        uint32_t steps = 0, frames = 0, texts = 0;
+        size_t bytes = 0;
+        char out[1024];
+        stop = framed_memories_run(&model, 500, out, sizeof out, &steps, &bytes);
+        fwrite(out, 1, bytes, stdout);
         total += steps;
         slices += 1;
-        if (framed_collect(program, FRAMED_PROGRAM_WORDS, heap, FRAMED_HEAP_WORDS, literals, FRAMED_LITERAL_BYTES, texts,
-                           FRAMED_TEXT_BYTES, &frames, &reached_texts) == 0)
-            printf("slice %u: %u steps, %u frames and %u texts reached\n", slices, steps, frames, reached_texts);
+        framed_memories_collect(&model, &frames, &texts);
+        printf("slice %u: %u steps, %u frames and %u texts reached\n", (unsigned)slices, (unsigned)steps,
+               (unsigned)frames, (unsigned)texts);
         /* each slice has an empty buffer that is longer than any line, so it goes on after FRAMED_OUTPUT too */
     } while ((stop == FRAMED_FUEL || stop == FRAMED_OUTPUT) && slices < 1000);
-    printf("end %u after %lu steps\n", stop, total);
+
+    if (stop == FRAMED_DONE)
+        printf("end 0 after %lu steps\n", total);
+    else
+        printf("end %u after %lu steps: %s\n", (unsigned)stop, total, framed_stop_message(stop));
     for (int i = 2; i < argc; i++)
         look(argv[i]);
-    return 0;
+    return stop == FRAMED_DONE ? 0 : 3;
 }

@@ -4,12 +4,21 @@
 //! specification over the same four memories, with no code in common: the yardstick of the tests and of the bench. Both
 //! have the same functions but for `look_text`, which gives a part of a memory in `plain` and a copy in `machine`.
 //!
+//! `places` tells where in a source a refusal or an end comes from, `replay` replays scripts of calls.
+//!
 //! A caller lends four memories. Every call takes memories of any length and any contents, and answers with a result or
 //! with the number of a refusal; a refused call changes nothing.
 
+// the blocks of Rust on the page of the language are tests
+#[cfg(doctest)]
+#[doc = include_str!("../../../docs/LANGUAGE.md")]
+struct LanguagePage;
+
 #[cfg(feature = "machine")]
 pub mod machine;
+pub mod places;
 pub mod plain;
+pub mod replay;
 
 use std::fmt;
 
@@ -28,9 +37,34 @@ pub const SOURCE_BYTES: usize = 16_384;
 #[derive(Clone, Copy, Debug, PartialEq, Eq, PartialOrd, Ord, Hash)]
 pub struct Refusal(pub u32);
 
+impl Refusal {
+    /// What the number says, in the words of README's table and of `framed_message` in C.
+    pub fn message(self) -> &'static str {
+        match self.0 {
+            1 => "a memory has another length",
+            2 => "F or T is outside its range",
+            3 => "the source is longer than 16,384 bytes",
+            4 => "bytes that form no token",
+            5 => "nesting above 16",
+            6 => "the tokens are not one frame",
+            7 => "path, operator or `!` outside code",
+            8 => "a frame with a name twice or more than 16 slots",
+            9 => "a count above its limit",
+            10 => "`^` above the program frame",
+            11 => "no Main frame with a code in start",
+            12 => "F or more frames are written outside code",
+            20 => "the memories are not whole",
+            21 => "not a path",
+            22 => "the path leads nowhere",
+            _ => "no number of a refusal",
+        }
+    }
+}
+
+/// As `refused 6: the tokens are not one frame`.
 impl fmt::Display for Refusal {
     fn fmt(&self, f: &mut fmt::Formatter<'_>) -> fmt::Result {
-        write!(f, "refused {}", self.0)
+        write!(f, "refused {}: {}", self.0, self.message())
     }
 }
 
@@ -62,7 +96,29 @@ impl End {
             _ => return None,
         })
     }
+
+    /// What the number says, in the words of README's table and of `framed_message` in C.
+    pub fn message(self) -> &'static str {
+        match self {
+            End::NoRule => "no rule applies",
+            End::DivisorZero => "divisor 0",
+            End::IntegerRange => "integer result out of range",
+            End::TextLength => "joined text above 64 bytes",
+            End::SlotLimit => "a 17th slot",
+            End::FramesFull => "no room for the frames that the instruction makes",
+            End::TextsFull => "no room for its made texts",
+        }
+    }
 }
+
+/// As `end 32: divisor 0`.
+impl fmt::Display for End {
+    fn fmt(&self, f: &mut fmt::Formatter<'_>) -> fmt::Result {
+        write!(f, "end {}: {}", *self as u32, self.message())
+    }
+}
+
+impl std::error::Error for End {}
 
 /// Why a run stopped.
 #[derive(Clone, Copy, Debug, PartialEq, Eq, Hash)]
@@ -77,6 +133,7 @@ pub enum Stop {
     Output,
 }
 
+/// As the last line of a printed run has it: `0`, a number from 31 to 37, `fuel` or `output`.
 impl fmt::Display for Stop {
     fn fmt(&self, f: &mut fmt::Formatter<'_>) -> fmt::Result {
         match self {

@@ -240,36 +240,57 @@ pub fn look_text(program: &[u32], heap: &[u32], literals: &[u8], texts: &[u8], p
     out[..length].to_vec()
 }
 
-/// A loaded program with its memories. Nobody else writes them, so that no run and no collect is refused.
+/// A loaded program with its memories. Nobody else writes them, so that no run and no collect is refused. A clone is a saved
+/// state: it runs on from where the model stood.
+#[derive(Clone, PartialEq, Eq)]
 pub struct Model {
     memories: Memories,
 }
 
 impl Model {
+    /// A source at its start, with the limits F (`frames`, 3 to 256) and T (`texts`, 0 to 256).
     pub fn load(source: &[u8], frames: u32, texts: u32) -> Result<Model, Refusal> {
         let mut m = Memories::new();
         load(source, frames, texts, &mut m.program, &mut m.heap, &mut m.literals, &mut m.texts)?;
         Ok(Model { memories: m })
     }
 
+    /// Runs for at most `fuel` steps. Shows are written to the front of `out`.
     pub fn run(&mut self, fuel: u32, out: &mut [u8]) -> RunReport {
         let m = &mut self.memories;
         run(&m.program, &mut m.heap, &m.literals, &mut m.texts, fuel, out).expect("whole memories")
     }
 
+    /// Afterwards exactly what self and program reach is in use.
     pub fn collect(&mut self) -> Totals {
         let m = &mut self.memories;
         collect(&m.program, &mut m.heap, &m.literals, &m.texts).expect("whole memories")
     }
 
-    pub fn look(&self, path: &[u8]) -> Result<Found, Refusal> {
+    /// What stands at the end of a path, as `model.look("self.faults")`.
+    pub fn look(&self, path: impl AsRef<[u8]>) -> Result<Found, Refusal> {
         let m = &self.memories;
-        look(&m.program, &m.heap, &m.literals, &m.texts, path)
+        look(&m.program, &m.heap, &m.literals, &m.texts, path.as_ref())
     }
 
-    pub fn look_text(&self, path: &[u8]) -> Vec<u8> {
+    /// The bytes of the text at the end of a path; none for another kind or a refusal.
+    pub fn look_text(&self, path: impl AsRef<[u8]>) -> Vec<u8> {
         let m = &self.memories;
-        look_text(&m.program, &m.heap, &m.literals, &m.texts, path)
+        look_text(&m.program, &m.heap, &m.literals, &m.texts, path.as_ref())
+    }
+
+    /// A model of memories that were saved. Where they are not whole, they come back with the refusal (20).
+    pub fn from_memories(memories: Memories) -> Result<Model, (Refusal, Memories)> {
+        let m = &memories;
+        // a look tests the memories before it reads the path
+        match look(&m.program, &m.heap, &m.literals, &m.texts, b"self") {
+            Err(Refusal(20)) => Err((Refusal(20), memories)),
+            _ => Ok(Model { memories }),
+        }
+    }
+
+    pub fn into_memories(self) -> Memories {
+        self.memories
     }
 
     /// The four memories, to be saved or compared.

@@ -1,146 +1,196 @@
-//! The script of the program `replay`, interpreted over the plain implementation, prints what is stored for the program.
-use framed::{plain, Found, Memories, Refusal};
-use std::fmt::Write;
-use std::path::Path;
+//! Scripts over the plain implementation and over the proved library print what is stored for the program `replay`.
+use framed::replay::{replay, Calls, Plain, Replayed};
+use framed::{Refusal, Stop};
+use std::fs;
+use std::path::{Path, PathBuf};
 
-enum Token {
-    Name(String),
-    Integer(i64),
-    Text(String),
+fn crates() -> PathBuf {
+    Path::new(env!("CARGO_MANIFEST_DIR")).join("../../crates")
 }
 
-/// The tokens of a script that has only names, integers, strings and comments.
-fn tokens(script: &str) -> Vec<Token> {
-    let mut tokens = Vec::new();
-    let mut rest = script;
-    loop {
-        rest = rest.trim_start();
-        if let Some(comment) = rest.strip_prefix("//") {
-            rest = comment.split_once('\n').map_or("", |(_, after)| after);
-        } else if let Some(text) = rest.strip_prefix('"') {
-            let (text, after) = text.split_once('"').expect("a string is closed");
-            tokens.push(Token::Text(text.to_owned()));
-            rest = after;
-        } else if rest.is_empty() {
-            return tokens;
-        } else {
-            let end = rest.find(|c: char| c.is_whitespace()).unwrap_or(rest.len());
-            let word = &rest[..end];
-            tokens.push(word.parse().map_or_else(|_| Token::Name(word.to_owned()), Token::Integer));
-            rest = &rest[end..];
-        }
-    }
+fn text(bytes: &[u8]) -> String {
+    String::from_utf8_lossy(bytes).into_owned()
 }
 
-fn refused(Refusal(number): Refusal) -> String {
-    format!("refused {number}\n")
+/// What a script prints on cleared memories, and what it came to.
+fn replayed(script: &[u8], directory: &Path, calls: &mut impl Calls) -> (Vec<u8>, Replayed) {
+    let mut printed = Vec::new();
+    let replayed = replay(script, directory, calls, &mut printed).unwrap();
+    (printed, replayed)
 }
 
-struct Replay<'a> {
-    data: &'a Path,
-    m: Memories,
-    printed: String,
+/// The print of a script, which is the same over each implementation.
+fn print(script: &[u8], directory: &Path) -> Vec<u8> {
+    let (printed, _) = replayed(script, directory, &mut Plain::default());
+    #[cfg(feature = "machine")]
+    {
+        let (proved, _) = replayed(script, directory, &mut framed::replay::Proved::default());
+        assert_eq!(text(&proved), text(&printed), "{}", text(script));
+    }
+    printed
 }
 
-impl Replay<'_> {
-    fn load(&mut self, file: &str, frames: i64, texts: i64) {
-        let source = std::fs::read(self.data.join(file)).unwrap();
-        let m = &mut self.m;
-        let loaded = plain::load(
-            &source,
-            frames as u32,
-            texts as u32,
-            &mut m.program,
-            &mut m.heap,
-            &mut m.literals,
-            &mut m.texts,
-        );
-        self.printed.push_str(&loaded.map_or_else(refused, |()| "loaded\n".to_owned()));
-    }
-
-    fn run(&mut self, fuel: i64, space: i64) {
-        let mut out = vec![0; space as usize];
-        let m = &mut self.m;
-        match plain::run(&m.program, &mut m.heap, &m.literals, &mut m.texts, fuel as u32, &mut out) {
-            Ok(report) => {
-                self.printed.push_str(std::str::from_utf8(&out[..report.bytes]).unwrap());
-                writeln!(self.printed, "run {} steps {} bytes {}", report.stop, report.steps, report.bytes).unwrap();
-            }
-            Err(refusal) => self.printed.push_str(&refused(refusal)),
-        }
-    }
-
-    fn collect(&mut self) {
-        let m = &mut self.m;
-        let answer = plain::collect(&m.program, &mut m.heap, &m.literals, &m.texts)
-            .map_or_else(refused, |totals| format!("collect frames {} texts {}\n", totals.frames, totals.texts));
-        self.printed.push_str(&answer);
-    }
-
-    fn look(&mut self, path: &[u8]) {
-        let m = &self.m;
-        let answer = match plain::look(&m.program, &m.heap, &m.literals, &m.texts, path) {
-            Ok(Found::Integer(n)) => format!("look integer {n}\n"),
-            Ok(Found::Text) => {
-                let text = plain::look_text(&m.program, &m.heap, &m.literals, &m.texts, path);
-                format!("look text {}\n", std::str::from_utf8(text).unwrap())
-            }
-            Ok(Found::Code) => "look code\n".to_owned(),
-            Ok(Found::Frame) => "look frame\n".to_owned(),
-            Err(refusal) => refused(refusal),
-        };
-        self.printed.push_str(&answer);
-    }
-
-    /// Makes the calls of a script. A token that does not fit is printed, and the next call begins behind it.
-    fn script(&mut self, script: &str) {
-        let mut call: Vec<Token> = Vec::new();
-        for token in tokens(script) {
-            let fits = match (call.as_slice(), &token) {
-                ([], Token::Name(name)) => ["load", "run", "collect", "look"].contains(&name.as_str()),
-                ([Token::Name(name)], Token::Text(_)) => name == "load" || name == "look",
-                ([Token::Name(name)], Token::Integer(_)) => name == "run",
-                ([_, _] | [_, _, _], Token::Integer(_)) => true,
-                _ => false,
-            };
-            if !fits {
-                let text = match token {
-                    Token::Name(name) => name,
-                    Token::Integer(n) => n.to_string(),
-                    Token::Text(text) => format!("\"{text}\""),
-                };
-                writeln!(self.printed, "? {text}").unwrap();
-                call.clear();
-                continue;
-            }
-            call.push(token);
-            match call.as_slice() {
-                [Token::Name(name)] if name == "collect" => self.collect(),
-                [Token::Name(name), Token::Text(path)] if name == "look" => self.look(path.as_bytes()),
-                [Token::Name(_), Token::Integer(fuel), Token::Integer(space)] => self.run(*fuel, *space),
-                [_, Token::Text(file), Token::Integer(frames), Token::Integer(texts)] => {
-                    self.load(file, *frames, *texts)
-                }
-                _ => continue,
-            }
-            call.clear();
-        }
-    }
-}
-
+/// A folder like crates/replay: the script `stdin` beside the folder `data` prints `stdout`.
 #[test]
 fn stored_script() {
-    let top = std::env::var_os("FRAMED_REPLAY")
-        .map(std::path::PathBuf::from)
-        .unwrap_or_else(|| Path::new(env!("CARGO_MANIFEST_DIR")).join("../../crates/replay"));
-    let Ok(script) = std::fs::read_to_string(top.join("stdin")) else {
+    let top = std::env::var_os("FRAMED_REPLAY").map_or_else(|| crates().join("replay"), PathBuf::from);
+    let Ok(script) = fs::read(top.join("stdin")) else {
         eprintln!("{} has no script", top.display());
         return;
     };
-    let mut replay = Replay { data: &top.join("data"), m: Memories::new(), printed: String::new() };
-    replay.script(&script);
+    let printed = print(&script, &top.join("data"));
     if std::env::var_os("FRAMED_PRINT").is_some() {
-        std::fs::write(top.join("stdout"), &replay.printed).unwrap();
+        fs::write(top.join("stdout"), &printed).unwrap();
     }
-    assert_eq!(replay.printed, std::fs::read_to_string(top.join("stdout")).unwrap());
+    assert_eq!(text(&printed), text(&fs::read(top.join("stdout")).unwrap()));
+}
+
+/// The scripts of the program `replaycorpus`, in the order of its index, print its stored output.
+#[test]
+fn corpus() {
+    let dir = crates().join("replaycorpus");
+    let Ok(index) = fs::read_to_string(dir.join("data/index")) else {
+        eprintln!("{} has no index", dir.display());
+        return;
+    };
+    let mut printed = Vec::new();
+    for name in index.lines() {
+        printed.extend_from_slice(format!("{name}\n").as_bytes());
+        printed.extend(print(&fs::read(dir.join("data").join(name)).unwrap(), &dir.join("data")));
+    }
+    assert_eq!(text(&printed), text(&fs::read(dir.join("stdout")).unwrap()));
+}
+
+/// Every `NAME.script` of the folder that FRAMED_SCRIPTS names prints `NAME.out`; its files lie beside it.
+#[test]
+fn further_scripts() {
+    let Some(dir) = std::env::var_os("FRAMED_SCRIPTS").map(PathBuf::from) else { return };
+    let mut scripts: Vec<_> = fs::read_dir(&dir)
+        .unwrap_or_else(|error| panic!("{}: {error}", dir.display()))
+        .map(|entry| entry.unwrap().path())
+        .filter(|path| path.extension().is_some_and(|extension| extension == "script"))
+        .collect();
+    scripts.sort();
+    assert!(!scripts.is_empty(), "no scripts in {}", dir.display());
+    for path in scripts {
+        let printed = print(&fs::read(&path).unwrap(), &dir);
+        let stored = fs::read(path.with_extension("out")).unwrap();
+        assert_eq!(text(&printed), text(&stored), "{}", path.display());
+    }
+}
+
+/// A script without files, and what it prints.
+fn prints(script: &str, printed: &str) {
+    assert_eq!(text(&print(script.as_bytes(), Path::new(""))), printed, "{script}");
+}
+
+/// Every token: what does not fit is printed with its own bytes.
+#[test]
+fn tokens() {
+    prints("", "");
+    prints(" \t\r\n// a comment without an end", "");
+    prints("frame code self show jump ifeq", "? frame\n? code\n? self\n? show\n? jump\n? ifeq\n");
+    prints(
+        ": := . ^ ! + - * / < # == && || ; , [ ] { }",
+        "? :\n? :=\n? .\n? ^\n? !\n? +\n? -\n? *\n? /\n? <\n? #\n? ==\n? &&\n? ||\n? ;\n? ,\n? [\n? ]\n? {\n? }\n",
+    );
+    prints(":==", "? :=\n? no token\n");
+    prints("a_Z9 frames abcdefghijklmnop 5x", "? a_Z9\n? frames\n? abcdefghijklmnop\n? 5\n? x\n");
+    prints("collect abcdefghijklmnopq collect", "refused 20\n? no token\n");
+    prints(
+        "2147483647 -2147483648 --0 00000000000012",
+        "? 2147483647\n? -2147483648\n? -\n? -0\n? 00000000000012\n",
+    );
+    for bytes in [
+        "2147483648",
+        "-2147483649",
+        "99999999999",
+        "=",
+        "&",
+        "|",
+        "\"",
+        "\"a\nb\"",
+        "\"\u{7f}\"",
+        "\0",
+        "\u{e4}",
+        "'",
+    ] {
+        prints(&format!("collect {bytes} collect"), "refused 20\n? no token\n");
+    }
+    let (fits, long) = ("x".repeat(64), "x".repeat(65));
+    prints(&format!("\"{fits}\""), &format!("? \"{fits}\"\n"));
+    prints(&format!("\"{long}\""), "? no token\n");
+}
+
+/// The forms of the calls, before a load.
+#[test]
+fn calls() {
+    prints("collect run 1 4096 look\"self\"look\"\"", "refused 20\nrefused 20\nrefused 20\nrefused 20\n");
+    prints("run -1 0 run 0 4097 run 0 -1", "refused 20\n? 4097\n? -1\n");
+    prints("run run 1 0 run \"\" collect", "? run\n? 1\n? 0\n? \"\"\nrefused 20\n");
+    prints("look self look : look 1 \"self\"", "? self\n? :\n? 1\n? \"self\"\n");
+    prints("load \"a\" \"b\" load \"a\" 1 load", "? \"b\"\n? load\n");
+    prints("collect load \"a\" // F\n 1\n// T\n", "refused 20\n? load \"a\" // F\n 1\n");
+    prints("load \"\" 3 0 collect", "? \n");
+}
+
+/// A script has at most 65,536 bytes.
+#[test]
+fn longest_script() {
+    let mut script = b"collect".to_vec();
+    script.resize(65_536, b' ');
+    assert_eq!(text(&print(&script, Path::new(""))), "refused 20\n");
+    script.push(b' ');
+    assert_eq!(text(&print(&script, Path::new(""))), "? script longer than 65536 bytes\n");
+}
+
+/// What a replay came to.
+#[test]
+fn outcomes() {
+    let data = crates().join("replaycorpus/data");
+    let outcome = |script: &str| replayed(script.as_bytes(), &data, &mut Plain::default()).1;
+    let none = outcome("load \"printed.framed\" 3 1 collect");
+    assert_eq!((none.unfit, none.refused, none.stop), (false, false, None));
+    let done = outcome("load \"printed.framed\" 3 1 run 2 0 run 9 9");
+    assert_eq!((done.unfit, done.refused, done.stop), (false, false, Some(Stop::Done)));
+    let refused = outcome("load \"printed.framed\" 3 1 run 2 0 look \"self.t\"");
+    assert_eq!((refused.unfit, refused.refused, refused.stop), (false, true, Some(Stop::Fuel)));
+    let unfit = outcome("step");
+    assert_eq!((unfit.unfit, unfit.refused, unfit.unread.is_none()), (true, false, true));
+    let unread = outcome("load \"absent.framed\" 3 1 collect");
+    let (name, error) = unread.unread.unwrap();
+    assert_eq!((unread.unfit, unread.refused, name.as_str()), (true, false, "absent.framed"));
+    assert_eq!(error.kind(), std::io::ErrorKind::NotFound);
+}
+
+/// A file is read as far as a source may go, and one byte more.
+#[test]
+fn long_file() {
+    struct Lengths(Vec<usize>);
+    impl Calls for Lengths {
+        fn load(&mut self, _: &str, source: &[u8], frames: u32, texts: u32) -> Result<(), Refusal> {
+            assert_eq!((frames, texts), (u32::MAX, 0));
+            self.0.push(source.len());
+            Err(Refusal(3))
+        }
+        fn run(&mut self, _: u32, _: &mut [u8]) -> Result<framed::RunReport, Refusal> {
+            unreachable!()
+        }
+        fn collect(&mut self) -> Result<framed::Totals, Refusal> {
+            unreachable!()
+        }
+        fn look(&self, _: &[u8]) -> Result<framed::Found, Refusal> {
+            unreachable!()
+        }
+        fn look_text(&self, _: &[u8]) -> Vec<u8> {
+            unreachable!()
+        }
+    }
+    let dir = Path::new(env!("CARGO_TARGET_TMPDIR"));
+    fs::write(dir.join("long.framed"), vec![b' '; 40_000]).unwrap();
+    fs::write(dir.join("exact.framed"), vec![b' '; 16_384]).unwrap();
+    let mut lengths = Lengths(Vec::new());
+    let script = b"load \"long.framed\" -1 0 load \"exact.framed\" -1 0";
+    let (printed, _) = replayed(script, dir, &mut lengths);
+    assert_eq!((text(&printed).as_str(), lengths.0), ("refused 3\nrefused 3\n", vec![16_385, 16_384]));
 }

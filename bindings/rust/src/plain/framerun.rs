@@ -8,7 +8,7 @@ pub fn framerun(source: &[u8]) -> Vec<u8> {
     let mut shown = vec![0; 4_096];
     let loaded = load(source, 256, 256, &mut m.program, &mut m.heap, &mut m.literals, &mut m.texts);
     if let Err(refusal) = loaded {
-        return format!("{refusal}\n").into_bytes();
+        return format!("refused {}\n", refusal.0).into_bytes();
     }
     let report = run(&m.program, &mut m.heap, &m.literals, &mut m.texts, 100_000, &mut shown)
         .expect("load leaves whole memories");

@@ -6,16 +6,16 @@
 //! call that they are whole, as the proved machine does.
 #![forbid(unsafe_code)]
 
-mod collect;
+pub(crate) mod collect;
 mod framerun;
-mod heap;
-mod layout;
+pub(crate) mod heap;
+pub(crate) mod layout;
 mod load;
 mod look;
-mod parse;
-mod run;
-mod token;
-mod whole;
+pub(crate) mod parse;
+pub(crate) mod run;
+pub(crate) mod token;
+pub(crate) mod whole;
 
 pub use framerun::framerun;
 pub use load::load;

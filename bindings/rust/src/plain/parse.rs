@@ -4,9 +4,10 @@ use super::token::{Operator, Token, Tokens};
 use crate::Refusal;
 use std::collections::HashMap;
 use std::hash::{BuildHasherDefault, Hasher};
+use std::ops::Range;
 
 /// `[` and `{` not yet closed, at most.
-const MOST_NESTING: u32 = 16;
+pub const MOST_NESTING: u32 = 16;
 
 #[derive(Clone, Copy, Debug, PartialEq, Eq)]
 pub enum Root {
@@ -72,13 +73,76 @@ pub struct Source<'a> {
     pub start: u32,
 }
 
+/// What the grammar wants at a token.
+#[derive(Clone, Copy, Debug, PartialEq, Eq)]
+pub enum Wanted {
+    Frame,
+    Colon,
+    OpenSquare,
+    OpenCurly,
+    Slot,
+    NextSlot,
+    SlotAssign,
+    Assign,
+    Expression,
+    Base,
+    Operator,
+    Instruction,
+    Semicolon,
+    Dot,
+    PathName,
+    UpOrName,
+    End,
+}
+
+/// A part of a source that a watch is told of.
+#[derive(Clone, Copy, Debug, PartialEq, Eq)]
+pub enum Part {
+    Expression,
+    Instruction,
+    /// The path on the left of `:=`.
+    Target,
+    Code,
+    /// A path, and how many names all paths up to it have.
+    Path(usize),
+    /// A path, operator or `!` outside code.
+    OutsideCode,
+    /// The front of a path with too many `^`, and how many the code could have.
+    AboveProgram(usize),
+}
+
+/// Is told what the parser reads, by numbers of tokens. Load's watch does nothing, so that load pays nothing for it.
+pub trait Watch {
+    /// A part has been read.
+    fn part(&mut self, _part: Part, _tokens: Range<usize>) {}
+    /// A frame begins at its word `frame`.
+    fn frame(&mut self, _at: usize, _in_code: bool) {}
+    /// A slot of the innermost open frame begins, with the name of this number.
+    fn slot(&mut self, _at: usize, _name: u32) {}
+    /// The innermost open frame has been read.
+    fn frame_ends(&mut self) {}
+    /// What is wanted here is not there, but reading goes on.
+    fn passes(&mut self, _at: usize, _wanted: Wanted) {}
+    /// What is wanted here is not there, and reading ends.
+    fn stops(&mut self, _at: usize, _wanted: Wanted, _in_code: bool) {}
+}
+
+struct Blind;
+
+impl Watch for Blind {}
+
 /// The tree of a source, or the lowest of the numbers 4 to 12 that holds over it.
 pub fn parse(source: &[u8], frame_limit: u32) -> Result<Source<'_>, Refusal> {
+    parse_watched(source, frame_limit, Blind)
+}
+
+/// The same, told to a watch.
+pub fn parse_watched<W: Watch>(source: &[u8], frame_limit: u32, watch: W) -> Result<Source<'_>, Refusal> {
     let tokens: Vec<Token> = Tokens::new(source).collect::<Result<_, _>>().map_err(|_| Refusal(4))?;
     if highest_nesting(&tokens) > MOST_NESTING {
         return Err(Refusal(5));
     }
-    let mut parser = Parser::new(tokens);
+    let mut parser = Parser::new(tokens, watch);
     let slots = parser.source().ok_or(Refusal(6))?;
     parser.judge(slots, frame_limit)
 }
@@ -129,8 +193,10 @@ impl<'a> Names<'a> {
     }
 }
 
-struct Parser<'a> {
+struct Parser<'a, W> {
     tokens: std::iter::Peekable<std::vec::IntoIter<Token<'a>>>,
+    token_count: usize,
+    watch: W,
     names: Names<'a>,
     literals: Vec<&'a [u8]>,
     path_names: Vec<u32>,
@@ -148,10 +214,12 @@ struct Parser<'a> {
 }
 
 // Each function reads one form of the grammar; `None` says that the tokens do not have it.
-impl<'a> Parser<'a> {
-    fn new(tokens: Vec<Token<'a>>) -> Parser<'a> {
+impl<'a, W: Watch> Parser<'a, W> {
+    fn new(tokens: Vec<Token<'a>>, watch: W) -> Parser<'a, W> {
         Parser {
+            token_count: tokens.len(),
             tokens: tokens.into_iter().peekable(),
+            watch,
             names: Names::default(),
             literals: Vec::new(),
             path_names: Vec::new(),
@@ -167,31 +235,55 @@ impl<'a> Parser<'a> {
         }
     }
 
-    fn source(&mut self) -> Option<Vec<Slot>> {
-        self.expect(Token::Frame)?;
-        let slots = self.frame()?;
-        self.tokens.peek().is_none().then_some(slots)
+    /// The number of the next token.
+    fn at(&self) -> usize {
+        self.token_count - self.tokens.size_hint().0
     }
 
-    fn expect(&mut self, token: Token<'a>) -> Option<()> {
-        self.accept(token).then_some(())
+    fn stop<T>(&mut self, at: usize, wanted: Wanted) -> Option<T> {
+        self.watch.stops(at, wanted, self.in_code);
+        None
+    }
+
+    /// The tokens from this one on have been read as a part.
+    fn part_from(&mut self, part: Part, from: usize) {
+        self.watch.part(part, from..self.at());
+    }
+
+    fn source(&mut self) -> Option<Vec<Slot>> {
+        self.expect(Token::Frame, Wanted::Frame)?;
+        let slots = self.frame()?;
+        if self.tokens.peek().is_some() {
+            return self.stop(self.at(), Wanted::End);
+        }
+        Some(slots)
+    }
+
+    fn expect(&mut self, token: Token<'a>, wanted: Wanted) -> Option<()> {
+        if self.accept(token) {
+            Some(())
+        } else {
+            self.stop(self.at(), wanted)
+        }
     }
 
     fn accept(&mut self, token: Token<'a>) -> bool {
         self.tokens.next_if_eq(&token).is_some()
     }
 
-    fn name(&mut self) -> Option<u32> {
-        match self.tokens.next()? {
-            Token::Name(name) => Some(self.names.number(name)),
-            _ => None,
+    fn name(&mut self, wanted: Wanted) -> Option<u32> {
+        let at = self.at();
+        match self.tokens.next() {
+            Some(Token::Name(name)) => Some(self.names.number(name)),
+            _ => self.stop(at, wanted),
         }
     }
 
     /// A frame, from behind the word `frame` on.
     fn frame(&mut self) -> Option<Vec<Slot>> {
-        self.expect(Token::Colon)?;
-        self.expect(Token::OpenSquare)?;
+        self.watch.frame(self.at() - 1, self.in_code);
+        self.expect(Token::Colon, Wanted::Colon)?;
+        self.expect(Token::OpenSquare, Wanted::OpenSquare)?;
         if !self.in_code {
             self.written_frames += 1;
         }
@@ -199,17 +291,20 @@ impl<'a> Parser<'a> {
         while !self.accept(Token::CloseSquare) {
             slots.push(self.slot()?);
             if !self.accept(Token::Comma) {
-                self.expect(Token::CloseSquare)?;
+                self.expect(Token::CloseSquare, Wanted::NextSlot)?;
                 break;
             }
         }
         self.bad_frame |= slots.len() > layout::MOST_SLOTS || has_name_twice(&slots);
+        self.watch.frame_ends();
         Some(slots)
     }
 
     fn slot(&mut self) -> Option<Slot> {
-        let name = self.name()?;
-        self.expect(Token::Assign)?;
+        let at = self.at();
+        let name = self.name(Wanted::Slot)?;
+        self.watch.slot(at, name);
+        self.expect(Token::Assign, Wanted::SlotAssign)?;
         // a frame written outside code is one level more; in code it adds none
         let level = !self.in_code && self.tokens.peek() == Some(&Token::Frame);
         if level {
@@ -223,55 +318,80 @@ impl<'a> Parser<'a> {
     }
 
     fn expression(&mut self) -> Option<Expression> {
+        let from = self.at();
         self.expressions += 1;
         if self.accept(Token::Frame) {
-            return Some(Expression::Frame(self.frame()?));
+            let slots = self.frame()?;
+            self.part_from(Part::Expression, from);
+            return Some(Expression::Frame(slots));
         }
         if self.accept(Token::Not) {
-            self.outside_code |= !self.in_code;
-            return Some(Expression::Not(self.operand()?));
+            self.only_in_code(from);
+            let base = self.operand()?;
+            self.part_from(Part::Expression, from);
+            return Some(Expression::Not(base));
         }
-        let first = self.base()?;
+        let first = self.base(Wanted::Expression)?;
+        let at = self.at();
+        self.part_from(Part::Expression, from);
         let Some(&Token::Operator(operator)) = self.tokens.peek() else {
+            self.watch.passes(at, Wanted::Operator);
             return Some(Expression::Base(first));
         };
         self.tokens.next();
-        self.outside_code |= !self.in_code;
+        self.only_in_code(at);
         self.expressions += 1;
-        Some(Expression::Operation(operator, first, self.operand()?))
+        let second = self.operand()?;
+        self.part_from(Part::Expression, from);
+        Some(Expression::Operation(operator, first, second))
+    }
+
+    /// An operator or `!` has been read.
+    fn only_in_code(&mut self, at: usize) {
+        if !self.in_code {
+            self.outside_code = true;
+            self.watch.part(Part::OutsideCode, at..at + 1);
+        }
     }
 
     fn operand(&mut self) -> Option<Base> {
+        let from = self.at();
         self.expressions += 1;
-        self.base()
+        let base = self.base(Wanted::Base)?;
+        self.part_from(Part::Expression, from);
+        Some(base)
     }
 
-    fn base(&mut self) -> Option<Base> {
-        Some(match self.tokens.next()? {
-            Token::Integer(n) => Base::Integer(n),
-            Token::String(bytes) => {
+    fn base(&mut self, wanted: Wanted) -> Option<Base> {
+        let at = self.at();
+        Some(match self.tokens.next() {
+            Some(Token::Integer(n)) => Base::Integer(n),
+            Some(Token::String(bytes)) => {
                 self.literals.push(bytes);
                 Base::Literal(self.literals.len() as u32 - 1)
             }
-            Token::SelfWord => Base::Path(self.self_path()?),
-            Token::Up => Base::Path(self.program_path()?),
-            Token::Code => Base::Code(self.code()?),
-            _ => return None,
+            Some(Token::SelfWord) => Base::Path(self.self_path()?),
+            Some(Token::Up) => Base::Path(self.program_path()?),
+            Some(Token::Code) => Base::Code(self.code()?),
+            _ => return self.stop(at, wanted),
         })
     }
 
-    /// A path, from behind the word `self` on.
+    /// A path, from behind the word `self` on. Load is measurably faster with it inlined.
+    #[inline(always)]
     fn self_path(&mut self) -> Option<Path> {
+        let from = self.at() - 1;
         let first = self.path_names.len() as u32;
         while self.accept(Token::Dot) {
-            let name = self.name()?;
+            let name = self.name(Wanted::PathName)?;
             self.path_names.push(name);
         }
-        Some(self.path_from(Root::SelfValue, first))
+        Some(self.path_from(Root::SelfValue, first, from))
     }
 
     /// A path, from behind its first `^` on. It becomes the list of names from the program frame down.
     fn program_path(&mut self) -> Option<Path> {
+        let from = self.at() - 1;
         let first = self.path_names.len() as u32;
         let mut further = 0;
         let mut dot = self.accept(Token::Dot);
@@ -279,57 +399,74 @@ impl<'a> Parser<'a> {
             further += 1;
             dot = self.accept(Token::Dot);
         }
-        self.above_program |= further > self.holder.len();
+        if further > self.holder.len() {
+            self.above_program = true;
+            self.watch.part(Part::AboveProgram(1 + self.holder.len()), from..from + 1 + 2 * further);
+        }
         let levels = self.holder.len().saturating_sub(further);
         self.path_names.extend_from_slice(&self.holder[..levels]);
+        let mut wanted = Wanted::UpOrName;
         while dot {
-            let name = self.name()?;
+            let name = self.name(wanted)?;
             self.path_names.push(name);
+            wanted = Wanted::PathName;
             dot = self.accept(Token::Dot);
         }
-        Some(self.path_from(Root::Program, first))
+        Some(self.path_from(Root::Program, first, from))
     }
 
-    fn path_from(&mut self, root: Root, first: u32) -> Path {
-        self.outside_code |= !self.in_code;
+    fn path_from(&mut self, root: Root, first: u32, from: usize) -> Path {
+        let tokens = from..self.at();
+        self.watch.passes(tokens.end, Wanted::Dot);
+        self.watch.part(Part::Path(self.path_names.len()), tokens.clone());
+        if !self.in_code {
+            self.outside_code = true;
+            self.watch.part(Part::OutsideCode, tokens);
+        }
         Path { root, first, count: self.path_names.len() as u32 - first }
     }
 
     /// A code literal, from behind the word `code` on.
     fn code(&mut self) -> Option<Code> {
-        self.expect(Token::OpenCurly)?;
+        let from = self.at() - 1;
+        self.expect(Token::OpenCurly, Wanted::OpenCurly)?;
         let number = self.codes;
         self.codes += 1;
         let outer = std::mem::replace(&mut self.in_code, true);
         let mut instructions = Vec::new();
         while !self.accept(Token::CloseCurly) {
+            let from = self.at();
             self.instructions += 1;
             instructions.push(self.instruction()?);
-            self.expect(Token::Semicolon)?;
+            self.expect(Token::Semicolon, Wanted::Semicolon)?;
+            self.part_from(Part::Instruction, from);
         }
         self.in_code = outer;
+        self.part_from(Part::Code, from);
         Some(Code { number, instructions })
     }
 
     fn instruction(&mut self) -> Option<Instruction> {
-        Some(match self.tokens.next()? {
-            Token::Show => Instruction::Show(self.operand()?),
-            Token::Jump => Instruction::Jump(self.operand()?, self.operand()?),
-            Token::Ifeq => Instruction::Ifeq(self.operand()?, self.operand()?, self.operand()?),
-            Token::SelfWord => {
+        let from = self.at();
+        Some(match self.tokens.next() {
+            Some(Token::Show) => Instruction::Show(self.operand()?),
+            Some(Token::Jump) => Instruction::Jump(self.operand()?, self.operand()?),
+            Some(Token::Ifeq) => Instruction::Ifeq(self.operand()?, self.operand()?, self.operand()?),
+            Some(Token::SelfWord) => {
                 let path = self.self_path()?;
-                self.assign(path)?
+                self.assign(path, from)?
             }
-            Token::Up => {
+            Some(Token::Up) => {
                 let path = self.program_path()?;
-                self.assign(path)?
+                self.assign(path, from)?
             }
-            _ => return None,
+            _ => return self.stop(from, Wanted::Instruction),
         })
     }
 
-    fn assign(&mut self, path: Path) -> Option<Instruction> {
-        self.expect(Token::Assign)?;
+    fn assign(&mut self, path: Path, from: usize) -> Option<Instruction> {
+        self.part_from(Part::Target, from);
+        self.expect(Token::Assign, Wanted::Assign)?;
         Some(Instruction::Assign(path, self.expression()?))
     }
 

@@ -36,13 +36,13 @@ impl From<End> for Halt {
 }
 
 /// What an expression without frame literals gives: a value, or two values to be joined.
-enum Product {
+pub(crate) enum Product {
     Value(Value),
     Joined(Value, Value),
 }
 
 /// Where an assignment goes.
-enum Target {
+pub(crate) enum Target {
     Root(usize),
     Slot(usize),
     NewSlot { frame: usize, name: u32 },
@@ -161,7 +161,7 @@ impl<'a> Machine<'a> {
     }
 
     /// Put's walk from self or program.
-    fn target(&self, root: usize, first: u32, count: u32) -> Result<Target, End> {
+    pub(crate) fn target(&self, root: usize, first: u32, count: u32) -> Result<Target, End> {
         let Some((&name, walk)) = self.path(first, count).split_last() else {
             return Ok(Target::Root(root));
         };
@@ -191,7 +191,7 @@ impl<'a> Machine<'a> {
     }
 
     /// The value of an expression that is an integer, a literal, a path or a code.
-    fn base(&self, x: u32) -> Result<Value, End> {
+    pub(crate) fn base(&self, x: u32) -> Result<Value, End> {
         let [kind, a, b, ..] = entry(self.program, layout::expression(x));
         let root = match kind {
             expression_kind::INTEGER => return Ok(Value::Integer(a as i32)),
@@ -216,7 +216,7 @@ impl<'a> Machine<'a> {
         }
     }
 
-    fn operate(&self, operator: Operator, v: Value, w: Value) -> Result<Product, End> {
+    pub(crate) fn operate(&self, operator: Operator, v: Value, w: Value) -> Result<Product, End> {
         let n = match operator {
             Operator::Plus => arithmetic(v, w, |a, b| Ok(a + b))?,
             Operator::Minus => arithmetic(v, w, |a, b| Ok(a - b))?,
@@ -258,7 +258,7 @@ impl<'a> Machine<'a> {
         }
     }
 
-    fn joined_length(&self, value: Value) -> Result<usize, End> {
+    pub(crate) fn joined_length(&self, value: Value) -> Result<usize, End> {
         match value {
             Value::Integer(n) => Ok(decimal(n, &mut [0; DECIMAL_BYTES]).len()),
             _ => self.text(value).map(<[u8]>::len).ok_or(End::NoRule),
@@ -302,7 +302,7 @@ impl<'a> Machine<'a> {
     }
 
     /// The slots of the frame literal x.
-    fn slots(&self, x: u32) -> impl Iterator<Item = u32> + 'a {
+    pub(crate) fn slots(&self, x: u32) -> impl Iterator<Item = u32> + 'a {
         let program = self.program;
         let follow = move |x: u32, distance: u32| (distance != 0).then(|| x + distance);
         let first = follow(x, program[layout::expression(x) + 1]);
@@ -310,7 +310,7 @@ impl<'a> Machine<'a> {
     }
 
     /// The frame literals and the `#` signs in an expression.
-    fn needs(&self, x: u32) -> (u32, u32) {
+    pub(crate) fn needs(&self, x: u32) -> (u32, u32) {
         match self.program[layout::expression(x)] {
             expression_kind::FRAME => self.slots(x).fold((1, 0), |(frames, texts), y| {
                 let (f, t) = self.needs(y);

@@ -1,4 +1,5 @@
 //! Tokens of a source, or of the path text of a look.
+use std::ops::Range;
 
 /// The operators, in the order of their kinds in the program words.
 #[derive(Clone, Copy, Debug, PartialEq, Eq)]
@@ -185,6 +186,17 @@ impl<'a> Tokens<'a> {
         self.rest = &self.rest[length..];
         Ok(token)
     }
+}
+
+/// The tokens of a source, each with its bytes. Where some form no token, only their beginning is given.
+pub fn placed(source: &[u8]) -> impl Iterator<Item = (Range<usize>, Result<Token<'_>, NoToken>)> {
+    let mut tokens = Tokens::new(source);
+    std::iter::from_fn(move || {
+        tokens.skip_space();
+        let from = source.len() - tokens.rest.len();
+        let token = tokens.next()?;
+        Some((from..source.len() - tokens.rest.len(), token))
+    })
 }
 
 impl<'a> Iterator for Tokens<'a> {

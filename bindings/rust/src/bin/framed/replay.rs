@@ -1,0 +1,82 @@
+//! `framed replay`: the calls of a script over the proved library. Refusals, ends and what does not fit are told in words
+//! beside the print, which is that of the program `replay`.
+use crate::arguments::Options;
+use crate::{ending, input, message, tell, Status};
+use framed::replay::{self, Calls, Proved, Replayed, SCRIPT_BYTES};
+use framed::{Found, Refusal, RunReport, Stop, Totals};
+use std::io::{self, Write};
+use std::path::Path;
+
+pub fn replay(options: &Options, out: &mut impl Write) -> io::Result<Status> {
+    let script = match input::read(&options.files[0], SCRIPT_BYTES + 1) {
+        Ok(script) => script,
+        Err(status) => return Ok(status),
+    };
+    let label = options.files[0].to_string_lossy().into_owned();
+    let mut calls = Told { label, script: &script, proved: Proved::default(), model: None };
+    let replayed = replay::replay(&script, Path::new(""), &mut calls, out)?;
+    Ok(status(&replayed))
+}
+
+fn status(replayed: &Replayed) -> Status {
+    if replayed.unfit {
+        Status::Failed
+    } else if replayed.refused {
+        Status::Refused
+    } else {
+        ending::status(replayed.stop.unwrap_or(Stop::Done))
+    }
+}
+
+/// The proved calls, with words on standard error.
+struct Told<'a> {
+    label: String,
+    script: &'a [u8],
+    proved: Proved,
+    model: Option<Model>,
+}
+
+/// The file that was loaded last, its source, and F.
+struct Model {
+    name: String,
+    source: Vec<u8>,
+    frames: u32,
+}
+
+fn told<T>(answer: Result<T, Refusal>, what: &str) -> Result<T, Refusal> {
+    answer.inspect_err(|refusal| tell(format_args!("{what}: {refusal}")))
+}
+
+impl Calls for Told<'_> {
+    fn load(&mut self, name: &str, source: &[u8], frames: u32, texts: u32) -> Result<(), Refusal> {
+        self.proved
+            .load(name, source, frames, texts)
+            .inspect_err(|&refusal| tell(message::refused(name, source, frames, texts, refusal)))?;
+        self.model = Some(Model { name: name.to_owned(), source: source.to_owned(), frames });
+        Ok(())
+    }
+
+    fn run(&mut self, fuel: u32, out: &mut [u8]) -> Result<RunReport, Refusal> {
+        let report = told(self.proved.run(fuel, out), "run")?;
+        if let (Stop::End(end), Some(model)) = (report.stop, &self.model) {
+            tell(message::ended(&model.name, &model.source, model.frames, &self.proved.0, end));
+        }
+        Ok(report)
+    }
+
+    fn collect(&mut self) -> Result<Totals, Refusal> {
+        told(self.proved.collect(), "collect")
+    }
+
+    fn look(&self, path: &[u8]) -> Result<Found, Refusal> {
+        told(self.proved.look(path), &String::from_utf8_lossy(path))
+    }
+
+    fn look_text(&self, path: &[u8]) -> Vec<u8> {
+        self.proved.look_text(path)
+    }
+
+    fn unfit(&mut self, at: usize, why: &str) {
+        tell(format_args!("{}:{}: {why}", self.label, message::place(self.script, at)));
+    }
+}
