@@ -21,7 +21,7 @@ help:
 	@echo
 	@echo '  prove      everything from nothing, each wrong version refused, each program run (rt ci): the gate'
 	@echo '  check      what changed since it was last proved, and what stands on it (rt check)'
-	@echo '  library    $(LIBRARY), for C and Rust (rt staticlib framed_c)'
+	@echo '  library    $(LIBRARY), for C and Rust (rt check framed_c, rt staticlib framed_c)'
 	@echo '  programs   target/bin/framerun and target/bin/replay (rt check framerun replay)'
 	@echo '  command    the Rust command framed, in bindings/rust/target/release'
 	@echo '  examples   the C examples target/embed and target/many'
@@ -41,7 +41,9 @@ prove:
 check:
 	rt check
 
+# rt staticlib alone proves one crate at a time, rt check one on each core
 library:
+	rt check framed_c
 	rt staticlib framed_c
 
 programs:
@@ -57,7 +59,7 @@ test: | $(LIBRARY)
 
 # The files have no prerequisites that are proved: what is there is taken as it is.
 $(LIBRARY):
-	rt staticlib framed_c
+	$(MAKE) library
 
 $(PROGRAMS):
 	rt check $(@F)

@@ -89,7 +89,7 @@ enum {
 
 /* Loads a source with the limits F (frames) and T (texts): the memories then hold its program at its start. What they held
  * before does not matter. Answers FRAMED_LOADED, or the lowest number from 1 to 12 that holds; then nothing is written.
- * Stack: at most 167 KiB. */
+ * Stack: at most 170,144 bytes. */
 uint32_t framed_load(const uint8_t *source, size_t source_length, uint32_t frames, uint32_t texts,
                      uint32_t *program, size_t program_length, uint32_t *heap, size_t heap_length,
                      uint8_t *literals, size_t literals_length, uint8_t *text_bytes, size_t text_length);
@@ -98,27 +98,27 @@ uint32_t framed_load(const uint8_t *source, size_t source_length, uint32_t frame
  * Answers why it stopped; *steps and *bytes become the steps made and the bytes written. After an end from 31 to 37 the
  * memories keep it, and every later run answers it again. With FRAMED_NOT_WHOLE nothing is written, *steps and *bytes
  * included.
- * Stack: at most 16 KiB over program words that load wrote. Others may nest frame literals deeper than a source: at most
- * 157 KiB. */
+ * Stack: at most 15,745 bytes over program words that load wrote, 160,752 over any memories, which may nest frame literals
+ * deeper than a source. */
 uint32_t framed_run(const uint32_t *program, size_t program_length, uint32_t *heap, size_t heap_length,
                     const uint8_t *literals, size_t literals_length, uint8_t *text_bytes, size_t text_length,
                     uint32_t fuel, uint8_t *out, size_t out_length, uint32_t *steps, size_t *bytes);
 
 /* Takes out of use what self and program do not reach. A run does so by itself where it needs room: a call is for a caller
  * who wants the totals. Answers 0, and *frames and *texts become what is reached; or FRAMED_NOT_WHOLE with nothing
- * written. Stack: at most 15 KiB. */
+ * written. Stack: at most 15,273 bytes. */
 uint32_t framed_collect(const uint32_t *program, size_t program_length, uint32_t *heap, size_t heap_length,
                         const uint8_t *literals, size_t literals_length, const uint8_t *text_bytes, size_t text_length,
                         uint32_t *frames, uint32_t *texts);
 
 /* What stands at the end of a path, as `self.line` or `^.Main.start` (`^` is the program frame). Answers the kind, and for
- * an integer *number becomes it; else *number stays. Stack: at most 15 KiB. */
+ * an integer *number becomes it; else *number stays. Stack: at most 15,281 bytes. */
 uint32_t framed_look(const uint32_t *program, size_t program_length, const uint32_t *heap, size_t heap_length,
                      const uint8_t *literals, size_t literals_length, const uint8_t *text_bytes, size_t text_length,
                      const uint8_t *path, size_t path_length, int32_t *number);
 
 /* The bytes of the text at the end of a path: answers how many there are (at most 64), and writes them to the front of
- * `out`, as far as they fit. For another kind or a refusal there are none. Stack: at most 15 KiB. */
+ * `out`, as far as they fit. For another kind or a refusal there are none. Stack: at most 15,337 bytes. */
 size_t framed_look_text(const uint32_t *program, size_t program_length, const uint32_t *heap, size_t heap_length,
                         const uint8_t *literals, size_t literals_length, const uint8_t *text_bytes, size_t text_length,
                         const uint8_t *path, size_t path_length, uint8_t *out, size_t out_length);
