@@ -30,8 +30,8 @@ help:
 	@echo '  install-library, install-programs    the two halves of it: the first needs no cargo'
 	@echo '  uninstall  takes them away again'
 	@echo
-	@echo 'Times on two cores: proving everything for the first time about 11 minutes, the library alone somewhat'
-	@echo 'less, the whole gate about 30 minutes. Later checks only look at what changed.'
+	@echo 'Times on two cores: the library from nothing about 10 minutes, everything (check) about 12, the whole'
+	@echo 'gate (prove) about 31. Later checks only look at what changed.'
 	@echo 'examples, test and install take the library and the programs that are there, and build what is missing:'
 	@echo 'after a change make library, programs and command first.'
 

@@ -35,7 +35,7 @@ static int load(const char *name) {
 
 static void look(const char *path) {
     int32_t number = 0;
-    char text[FRAMED_LINE_BYTES]; /* a text has at most 64 bytes */
+    char text[FRAMED_STRING_BYTES + 1];
     uint32_t kind = framed_memories_look(&model, path, &number);
     switch (kind) {
     case FRAMED_INTEGER:
@@ -80,10 +80,10 @@ int main(int argc, char **argv) {
         /* each slice has an empty buffer that is longer than any line, so it goes on after FRAMED_OUTPUT too */
     } while ((stop == FRAMED_FUEL || stop == FRAMED_OUTPUT) && slices < 1000);
 
-    if (stop == FRAMED_DONE)
-        printf("end 0 after %lu steps\n", total);
+    if (stop >= FRAMED_NO_RULE)
+        printf("end %u after %lu steps: %s\n", (unsigned)stop, total, framed_message(stop));
     else
-        printf("end %u after %lu steps: %s\n", (unsigned)stop, total, framed_stop_message(stop));
+        printf("%s after %lu steps\n", framed_stop_message(stop), total);
     for (int i = 2; i < argc; i++)
         look(argv[i]);
     return stop == FRAMED_DONE ? 0 : 3;

@@ -43,6 +43,7 @@ static int load(struct model *m) {
     fclose(file);
     if (unread)
         return 0;
+    /* room for 40 frames and 8 made texts, which are collected as they die */
     uint32_t refused = framed_memories_load(&m->now, source, length, 40, 8);
     if (refused)
         fprintf(stderr, "%s: refused %u: %s\n", m->name, (unsigned)refused, framed_message(refused));
@@ -112,8 +113,11 @@ int main(int argc, char **argv) {
 
     for (int i = 0; i < count; i++) {
         struct model *m = &models[i];
-        printf("%s: end %u after %lu steps: %s\n", m->name, (unsigned)m->last.stop, m->steps,
-               framed_stop_message(m->last.stop));
+        if (m->last.stop >= FRAMED_NO_RULE)
+            printf("%s: end %u after %lu steps: %s\n", m->name, (unsigned)m->last.stop, m->steps,
+                   framed_message(m->last.stop));
+        else
+            printf("%s: %s after %lu steps\n", m->name, framed_stop_message(m->last.stop), m->steps);
         good &= m->last.stop == FRAMED_DONE;
         good &= again(m);
     }

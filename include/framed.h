@@ -30,7 +30,7 @@ extern "C" {
 #define FRAMED_VERSION_PATCH 0
 #define FRAMED_VERSION "0.2.0"
 
-/* The lengths that the four memories must have. */
+/* The lengths that the four memories must have, in words and bytes. */
 #define FRAMED_PROGRAM_WORDS 16384
 #define FRAMED_HEAP_WORDS 16384
 #define FRAMED_LITERAL_BYTES 8192
@@ -41,6 +41,7 @@ extern "C" {
 #define FRAMED_MIN_FRAMES 3       /* F, the frame limit given to load */
 #define FRAMED_MAX_FRAMES 256
 #define FRAMED_MAX_TEXTS 256      /* T, the made text limit given to load, from 0 on */
+#define FRAMED_STRING_BYTES 64    /* the longest text */
 #define FRAMED_LINE_BYTES 65      /* the longest line of a show, with its byte 10 */
 
 /* What load answers. A refused load changes nothing. */
@@ -89,6 +90,7 @@ enum {
 
 /* Loads a source with the limits F (frames) and T (texts): the memories then hold its program at its start. What they held
  * before does not matter. Answers FRAMED_LOADED, or the lowest number from 1 to 12 that holds; then nothing is written.
+ * The place of a refusal in the source is what the command `framed check MODEL` tells.
  * Stack: at most 170,144 bytes. */
 uint32_t framed_load(const uint8_t *source, size_t source_length, uint32_t frames, uint32_t texts,
                      uint32_t *program, size_t program_length, uint32_t *heap, size_t heap_length,
@@ -118,12 +120,14 @@ uint32_t framed_look(const uint32_t *program, size_t program_length, const uint3
                      const uint8_t *path, size_t path_length, int32_t *number);
 
 /* The bytes of the text at the end of a path: answers how many there are (at most 64), and writes them to the front of
- * `out`, as far as they fit. For another kind or a refusal there are none. Stack: at most 15,337 bytes. */
+ * `out`, as far as they fit. For another kind or a refusal there are none, as for an empty text: framed_look tells them
+ * apart. Stack: at most 15,337 bytes. */
 size_t framed_look_text(const uint32_t *program, size_t program_length, const uint32_t *heap, size_t heap_length,
                         const uint8_t *literals, size_t literals_length, const uint8_t *text_bytes, size_t text_length,
                         const uint8_t *path, size_t path_length, uint8_t *out, size_t out_length);
 
-/* What a refusal or an end says, by its number: 1 to 12, 20 to 22, 31 to 37. For what a run answers see the next one. */
+/* What a refusal or an end says, by its number: 1 to 12, 20 to 22, 31 to 37. What a run answers has the next one; what a look
+ * finds (1 to 4) is no refusal and has none. */
 static inline const char *framed_message(uint32_t number) {
     switch (number) {
     case 0: return "no refusal and no end";

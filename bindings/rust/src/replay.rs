@@ -7,8 +7,10 @@
 
 #[cfg(feature = "machine")]
 use crate::machine;
+use crate::places::no_token;
 use crate::plain::token::{placed, Token};
 use crate::{plain, Found, Memories, Refusal, RunReport, Stop, Totals, SOURCE_BYTES};
+use std::fmt;
 use std::fs::File;
 use std::io::{self, Read, Write};
 use std::ops::Range;
@@ -30,6 +32,8 @@ pub trait Calls {
     fn look_text(&self, path: &[u8]) -> Vec<u8>;
     /// Is told why something was printed behind a `?`, and the byte of the script where it begins.
     fn unfit(&mut self, _at: usize, _why: &str) {}
+    /// Is told that a run, collect or look (`what`: the call's name, or the path) was refused, and where it begins.
+    fn refused(&mut self, _at: usize, _what: &str, _refusal: Refusal) {}
 }
 
 /// Memories, cleared at first, with the calls of one implementation.
@@ -105,12 +109,22 @@ pub fn replay(
 
 // ---- The calls of a script
 
-/// What may stand in a place behind the name of a call.
+/// What may stand in a place behind the name of a call, with what README calls it.
 #[derive(Clone, Copy)]
 enum Argument {
-    Text,
+    Text(&'static str),
     /// An integer; taken as 32 bits without sign it is at most this.
-    Number(u32),
+    Number(&'static str, u32),
+}
+
+impl fmt::Display for Argument {
+    fn fmt(&self, f: &mut fmt::Formatter<'_>) -> fmt::Result {
+        match self {
+            Argument::Text(name) => write!(f, "{name}, a string"),
+            Argument::Number(name, u32::MAX) => write!(f, "{name}, an integer"),
+            Argument::Number(name, most) => write!(f, "{name}, an integer from 0 to {most}"),
+        }
+    }
 }
 
 #[derive(Clone, Copy)]
@@ -123,10 +137,10 @@ enum Value<'a> {
 fn arguments(name: &[u8]) -> Option<&'static [Argument]> {
     use Argument::{Number, Text};
     Some(match name {
-        b"load" => &[Text, Number(u32::MAX), Number(u32::MAX)],
-        b"run" => &[Number(u32::MAX), Number(SPACE)],
+        b"load" => &[Text("FILE"), Number("F", u32::MAX), Number("T", u32::MAX)],
+        b"run" => &[Number("FUEL", u32::MAX), Number("SPACE", SPACE)],
         b"collect" => &[],
-        b"look" => &[Text],
+        b"look" => &[Text("PATH")],
         _ => return None,
     })
 }
@@ -141,22 +155,29 @@ struct Call<'a> {
 }
 
 impl<'a> Call<'a> {
-    /// The call that a token begins, if it is the name of one.
-    fn begun(token: Token<'a>, begin: usize) -> Option<Call<'a>> {
-        let Token::Name(name) = token else { return None };
-        let arguments = arguments(name)?;
-        Some(Call { begin, name, arguments, values: Vec::new() })
+    /// The call that a token begins; or, where it is not the name of one, why.
+    fn begun(token: Token<'a>, begin: usize) -> Result<Call<'a>, String> {
+        if let Token::Name(name) = token {
+            if let Some(arguments) = arguments(name) {
+                return Ok(Call { begin, name, arguments, values: Vec::new() });
+            }
+        }
+        Err("expected the name of a call".to_owned())
     }
 
-    /// The call with one more argument, if the token fits.
-    fn with(mut self, token: Token<'a>) -> Option<Call<'a>> {
-        let value = match (self.arguments[self.values.len()], token) {
-            (Argument::Text, Token::String(text)) => Value::Text(text),
-            (Argument::Number(largest), Token::Integer(n)) if n as u32 <= largest => Value::Number(n as u32),
-            _ => return None,
+    /// The call with one more argument; or, where the token does not fit, why.
+    fn with(mut self, token: Token<'a>) -> Result<Call<'a>, String> {
+        let argument = self.arguments[self.values.len()];
+        let value = match (argument, token) {
+            (Argument::Text(_), Token::String(text)) => Value::Text(text),
+            (Argument::Number(_, most), Token::Integer(n)) if n as u32 <= most => Value::Number(n as u32),
+            _ => {
+                let name = String::from_utf8_lossy(self.name);
+                return Err(format!("expected {argument}; the call `{name}` is not made"));
+            }
         };
         self.values.push(value);
-        Some(self)
+        Ok(self)
     }
 
     fn is_complete(&self) -> bool {
@@ -178,7 +199,8 @@ impl<C: Calls, W: Write> Replay<'_, C, W> {
         let mut end = 0;
         for (Range { start, end: token_end }, token) in placed(script) {
             let Ok(token) = token else {
-                return self.put_unfit(b"no token", start, "bytes that form no token; no further call is made");
+                let why = format!("bytes that form no token: {}; no further call is made", no_token(script, start).1);
+                return self.put_unfit(b"no token", start, &why);
             };
             end = token_end;
             let call = match open.take() {
@@ -186,12 +208,9 @@ impl<C: Calls, W: Write> Replay<'_, C, W> {
                 None => Call::begun(token, start),
             };
             match call {
-                Some(call) if call.is_complete() => self.make(&call)?,
-                Some(call) => open = Some(call),
-                None => {
-                    let why = "a token that does not fit; the next call begins behind it";
-                    self.put_unfit(&script[start..end], start, why)?;
-                }
+                Ok(call) if call.is_complete() => self.make(&call)?,
+                Ok(call) => open = Some(call),
+                Err(why) => self.put_unfit(&script[start..end], start, &why)?,
             }
             if self.replayed.unread.is_some() {
                 return Ok(());
@@ -209,9 +228,9 @@ impl<C: Calls, W: Write> Replay<'_, C, W> {
         use Value::{Number, Text};
         match (call.name, call.values.as_slice()) {
             (b"load", &[Text(file), Number(frames), Number(texts)]) => self.load(call.begin, file, frames, texts),
-            (b"run", &[Number(fuel), Number(space)]) => self.run(fuel, space),
-            (b"collect", []) => self.collect(),
-            (b"look", &[Text(path)]) => self.look(path),
+            (b"run", &[Number(fuel), Number(space)]) => self.run(call.begin, fuel, space),
+            (b"collect", []) => self.collect(call.begin),
+            (b"look", &[Text(path)]) => self.look(call.begin, path),
             _ => unreachable!("a call with other arguments than its own"),
         }
     }
@@ -221,7 +240,7 @@ impl<C: Calls, W: Write> Replay<'_, C, W> {
         match read_source(&self.directory.join(&*name)) {
             Ok(source) => match self.calls.load(&name, &source, frames, texts) {
                 Ok(()) => self.out.write_all(b"loaded\n"),
-                Err(refusal) => self.put_refused(refusal),
+                Err(Refusal(number)) => self.put_number(number),
             },
             // the memories are still those of an earlier load: so no further call is made
             Err(error) => {
@@ -232,7 +251,7 @@ impl<C: Calls, W: Write> Replay<'_, C, W> {
         }
     }
 
-    fn run(&mut self, fuel: u32, space: u32) -> io::Result<()> {
+    fn run(&mut self, begin: usize, fuel: u32, space: u32) -> io::Result<()> {
         let mut shown = vec![0; space as usize];
         match self.calls.run(fuel, &mut shown) {
             Ok(RunReport { stop, steps, bytes }) => {
@@ -240,18 +259,18 @@ impl<C: Calls, W: Write> Replay<'_, C, W> {
                 self.out.write_all(&shown[..bytes])?;
                 writeln!(self.out, "run {stop} steps {steps} bytes {bytes}")
             }
-            Err(refusal) => self.put_refused(refusal),
+            Err(refusal) => self.put_refused(begin, "run", refusal),
         }
     }
 
-    fn collect(&mut self) -> io::Result<()> {
+    fn collect(&mut self, begin: usize) -> io::Result<()> {
         match self.calls.collect() {
             Ok(Totals { frames, texts }) => writeln!(self.out, "collect frames {frames} texts {texts}"),
-            Err(refusal) => self.put_refused(refusal),
+            Err(refusal) => self.put_refused(begin, "collect", refusal),
         }
     }
 
-    fn look(&mut self, path: &[u8]) -> io::Result<()> {
+    fn look(&mut self, begin: usize, path: &[u8]) -> io::Result<()> {
         match self.calls.look(path) {
             Ok(Found::Integer(n)) => writeln!(self.out, "look integer {n}"),
             Ok(Found::Text) => {
@@ -260,13 +279,19 @@ impl<C: Calls, W: Write> Replay<'_, C, W> {
             }
             Ok(Found::Code) => self.out.write_all(b"look code\n"),
             Ok(Found::Frame) => self.out.write_all(b"look frame\n"),
-            Err(refusal) => self.put_refused(refusal),
+            Err(refusal) => self.put_refused(begin, &String::from_utf8_lossy(path), refusal),
         }
     }
 
-    fn put_refused(&mut self, Refusal(number): Refusal) -> io::Result<()> {
+    fn put_number(&mut self, number: u32) -> io::Result<()> {
         self.replayed.refused = true;
         writeln!(self.out, "refused {number}")
+    }
+
+    fn put_refused(&mut self, at: usize, what: &str, refusal: Refusal) -> io::Result<()> {
+        self.put_number(refusal.0)?;
+        self.calls.refused(at, what, refusal);
+        Ok(())
     }
 
     fn put_unfit(&mut self, bytes: &[u8], at: usize, why: &str) -> io::Result<()> {

@@ -217,13 +217,13 @@ mod examples {
         (
             "branch",
             &["self.value"],
-            "0\nzero\n1\nnot zero\nslice 1: 10 steps, 3 frames and 0 texts reached\nend 0 after 10 steps\n\
+            "0\nzero\n1\nnot zero\nslice 1: 10 steps, 3 frames and 0 texts reached\ndone after 10 steps\n\
              self.value is 1\n",
         ),
         (
             "call",
             &["self.res"],
-            "42\nslice 1: 9 steps, 5 frames and 0 texts reached\nend 0 after 9 steps\nself.res is 42\n",
+            "42\nslice 1: 9 steps, 5 frames and 0 texts reached\ndone after 9 steps\nself.res is 42\n",
         ),
         (
             "drive",
@@ -235,7 +235,7 @@ mod examples {
              slice 4: 500 steps, 16 frames and 0 texts reached\n\
              asked 1600\nerased 1800\na trim of 8 blocks erases 9\nfaults 1\nFAIL\n\
              slice 5: 47 steps, 14 frames and 1 texts reached\n\
-             end 0 after 2047 steps\n\
+             done after 2047 steps\n\
              self.faults is 1\nself.line is \"faults 1\"\n^.Main.start is a code\nself is a frame\n\
              self.nowhere: refused 22: the path leads nowhere\na b: refused 21: not a path\n",
         ),
@@ -249,15 +249,15 @@ mod examples {
              slice 4: 500 steps, 16 frames and 0 texts reached\n\
              asked 1600\nerased 1600\nPASS\n\
              slice 5: 42 steps, 14 frames and 1 texts reached\n\
-             end 0 after 2042 steps\nself.faults is 0\n",
+             done after 2042 steps\nself.faults is 0\n",
         ),
         (
             "exception",
             &["self.res"],
-            "42\nuncaught exception: 43\nslice 1: 14 steps, 5 frames and 1 texts reached\nend 0 after 14 steps\n\
+            "42\nuncaught exception: 43\nslice 1: 14 steps, 5 frames and 1 texts reached\ndone after 14 steps\n\
              self.res is \"uncaught exception: 43\"\n",
         ),
-        ("hello", &[], "Hello World!\nslice 1: 1 steps, 3 frames and 0 texts reached\nend 0 after 1 steps\n"),
+        ("hello", &[], "Hello World!\nslice 1: 1 steps, 3 frames and 0 texts reached\ndone after 1 steps\n"),
     ];
 
     #[test]
@@ -287,7 +287,7 @@ mod examples {
             );
             let output = run(&program, &[&endless]);
             assert_eq!(output.status.code(), Some(3));
-            assert!(text(&output.stdout).ends_with("end 1 after 500000 steps: fuel\n"));
+            assert!(text(&output.stdout).ends_with("fuel after 500000 steps\n"));
             expect(&program, &[&no_frame], 1, "", &format!("{no_frame}: refused 6: the tokens are not one frame\n"));
             expect(
                 &program,
@@ -334,12 +334,12 @@ mod examples {
                  asked 1600\nerased 1800\na trim of 8 blocks erases 9\nfaults 1\nFAIL\n\
                  turn 5 of examples/drive_repaired.framed: 42 steps, done\n\
                  asked 1600\nerased 1600\nPASS\n\
-                 examples/drive.framed: end 0 after 2047 steps: done\n"
+                 examples/drive.framed: done after 2047 steps\n"
                     .to_string()
                     + &tried("examples/drive.framed", "47")
-                    + "examples/hello.framed: end 0 after 1 steps: done\n"
+                    + "examples/hello.framed: done after 1 steps\n"
                     + &tried("examples/hello.framed", "1")
-                    + "examples/drive_repaired.framed: end 0 after 2042 steps: done\n"
+                    + "examples/drive_repaired.framed: done after 2042 steps\n"
                     + &tried("examples/drive_repaired.framed", "42")),
                 "",
             );
@@ -355,7 +355,7 @@ mod examples {
                     0,
                     &format!(
                         "turn 1 of {source}: {steps} steps, done\n{shown}\n\
-                         {source}: end 0 after {steps} steps: done\n{}",
+                         {source}: done after {steps} steps\n{}",
                         tried(&source, steps)
                     ),
                     "",

@@ -251,13 +251,14 @@ fn looks() {
     );
     let looks = "--look self.n self.t self.e --fuel 9 --look self.f ^.Main.start self";
     is(framed(&format!("run {name} {looks}")), 0, &out, "");
-    let said = "self.x: refused 22: the path leads nowhere\nx: refused 21: not a path\n";
+    let said = "self.x: refused 22: the path leads nowhere: no slot `x` in self\n\
+                x: refused 21: not a path: a path is `self` or one `^`, the program, then names: self.faults, ^.table\n";
     let out = format!("{end}self.n integer -7\n");
     is(framed(&format!("run {name} --look self.x self.n x")), 2, &out, said);
     // the run's own status stays
     let (status, out, err) = framed(&format!("run {name} --fuel 1 --look self.t self.n"));
     assert_eq!((status, out.as_str()), (3, "end fuel steps 1 frames 3 texts 0\nself.n integer -7\n"));
-    assert!(err.ends_with("\nself.t: refused 22: the path leads nowhere\n"), "{err}");
+    assert!(err.ends_with("\nself.t: refused 22: the path leads nowhere: no slot `t` in self\n"), "{err}");
 }
 
 #[test]
@@ -323,7 +324,7 @@ fn check_long() {
 #[test]
 fn check_caret() {
     let (_, _, err) = framed_input("check -", "frame: [\r\n\t\"\u{e4}\" ]");
-    says(&err, &["-:2:2: refused 4: bytes that form no token: *", "  \t\"\u{e4}\" ]", "  \t^"]);
+    says(&err, &["-:2:3: refused 4: bytes that form no token: *", "  \t\"\u{e4}\" ]", "  \t ^"]);
     let (_, _, err) = framed_input("check -", "frame: [ /\u{1b}[31m ]\r\n");
     says(&err, &["-:1:11: refused 4: bytes that form no token: *", "  frame: [ /?[31m ]", "            ^"]);
 }
@@ -519,27 +520,30 @@ fn replay_statuses() {
     let end = format!(
         "{name}:1:69: end 31: no rule applies\n  self.b := self.c;\n  operand `self.c` (1:79): no slot `c` in self\n"
     );
-    let nowhere = "self.x: refused 22: the path leads nowhere\n";
-    let unfit = "-:2:15: a token that does not fit; the next call begins behind it\n";
+    let nowhere = |column| format!("-:2:{column}: self.x: refused 22: the path leads nowhere: no slot `x` in self\n");
+    let unfit = "-:2:15: expected the name of a call\n";
     let cases = [
         (0, "", "", ""),
         (0, "collect", "collect frames 3 texts 0\n", ""),
         (3, "run 1 0", "run fuel steps 1 bytes 0\n", ""),
         (3, "run 9 0", "run output steps 1 bytes 0\n", ""),
         (1, "run 1 0 run 9 9", "run fuel steps 1 bytes 0\n7\nrun 31 steps 1 bytes 2\n", &end),
-        (2, "run 9 9 look \"self.x\"", "7\nrun 31 steps 2 bytes 2\nrefused 22\n", &format!("{end}{nowhere}")),
-        (4, "look \"self.x\" 5", "refused 22\n? 5\n", &format!("{nowhere}{unfit}")),
+        (2, "run 9 9 look \"self.x\"", "7\nrun 31 steps 2 bytes 2\nrefused 22\n", &format!("{end}{}", nowhere(9))),
+        (4, "look \"self.x\" 5", "refused 22\n? 5\n", &format!("{}{unfit}", nowhere(1))),
+        (4, "run 1 4097", "? 4097\n", "-:2:7: expected SPACE, an integer from 0 to 4096; the call `run` is not made\n"),
+        (4, "look self", "? self\n", "-:2:6: expected PATH, a string; the call `look` is not made\n"),
+        (4, "load \"a\" 3 run", "? run\n", "-:2:12: expected T, an integer; the call `load` is not made\n"),
         (4, "run 9", "? run 9\n", "-:2:1: a call without all its arguments at the end\n"),
-        (4, "= collect", "? no token\n", "-:2:1: bytes that form no token; no further call is made\n"),
+        (4, "= collect", "? no token\n", "-:2:1: bytes that form no token: a lone `=`; `:=` and `==` are tokens; no further call is made\n"),
     ];
     for (status, calls, printed, said) in cases {
         is(framed_input("replay -", &format!("{load}\n{calls}")), status, &format!("loaded\n{printed}"), said);
     }
     is(framed_input("replay -", ""), 0, "", "");
-    is(framed_input("replay -", "run 1 1"), 2, "refused 20\n", "run: refused 20: the memories are not whole\n");
+    is(framed_input("replay -", "run 1 1"), 2, "refused 20\n", "-:1:1: run: refused 20: the memories are not whole: nothing is loaded\n");
     let broken = file("broken.framed", "frame: [\n  a 5 ]");
     let said = format!(
-        "{broken}:2:5: refused 6: the tokens are not one frame: expected `:=` behind the name `a`, found `5`\n    a 5 ]\n      ^\n"
+        "{broken}:2:5: refused 6: the tokens are not one frame: expected `:=` behind the name `a`, found the integer `5`\n    a 5 ]\n      ^\n"
     );
     is(framed_input("replay -", &format!("load \"{broken}\" 3 0")), 2, "refused 6\n", &said);
     let said = "-:1:1: absent.framed: No such file or directory; no further call is made\n";
@@ -576,10 +580,10 @@ fn wrong_usage() {
         ("check a --fuel 3", "framed check: no option `--fuel`"),
         ("trace a --look self", "framed trace: no option `--look`"),
         ("replay a --frames 3", "framed replay: no option `--frames`"),
-        ("run a --fuel", "framed run: --fuel takes a number from 0 to 4294967295"),
-        ("run a --fuel x", "framed run: --fuel takes a number from 0 to 4294967295, not `x`"),
-        ("run a --frames -1", "framed run: --frames takes a number from 0 to 4294967295, not `-1`"),
-        ("run a --texts 4294967296", "framed run: --texts takes a number from 0 to 4294967295, not `4294967296`"),
+        ("run a --fuel", "framed run: --fuel takes a number, 0 to 4294967295"),
+        ("run a --fuel x", "framed run: --fuel takes a number, 0 to 4294967295, not `x`"),
+        ("run a --frames -1", "framed run: --frames takes a number, 3 to 256, not `-1`"),
+        ("run a --texts 4294967296", "framed run: --texts takes a number, 0 to 256, not `4294967296`"),
         ("run a --look", "framed run: --look takes paths, as `self.faults`"),
         ("run a --look --fuel 3", "framed run: --look takes paths, as `self.faults`"),
         ("run --look self a", "framed run: no MODEL is given"),
@@ -608,6 +612,10 @@ fn help() {
         assert!(out.contains(words), "{words}");
     }
     assert_eq!(framed("run a b --fuel x --help").1, framed("run --help").1);
+    assert_eq!((framed("-h").1, framed("help").1), (framed("--help").1, framed("--help").1));
+    file("short.framed", start("show 1; self.a := 2;"));
+    is(framed("run short.framed --fuel=1 --look=self"), 3, "1\nend fuel steps 1 frames 3 texts 0\nself frame\n",
+        "short.framed: fuel: stopped after 1 step; --fuel N gives more\n");
     is(framed("--version"), 0, concat!("framed ", env!("CARGO_PKG_VERSION"), "\n"), "");
 }
 

@@ -101,6 +101,7 @@ fn run_slice(
     }
 }
 
+// The space of a script's run is at most 4,096.
 fn run_call(
     p: &[u32; 16384],
     h: &mut [u32; 16384],

@@ -130,7 +130,7 @@ impl Step<'_> {
         self.machine.operate(operator, a.value, b.value).map(drop).map_err(|end| {
             let (at, detail) = match end {
                 End::NoRule => self.wrong_kind(operator, a, b),
-                End::DivisorZero => (b.x, format!("the divisor {} is 0", self.shown(b.x))),
+                End::DivisorZero => (b.x, "the divisor is 0".into()),
                 End::IntegerRange => (x, exact(operator, a.value, b.value)),
                 _ => (x, self.joined(a.value, b.value)),
             };
@@ -276,11 +276,24 @@ impl Path<'_> {
                 return format!("{}: {} is {} and not a frame", self.shown(), self.front(i), kind(value));
             };
             let Some(slot) = heap::find_slot(heap, heap::frame(f), name) else {
-                return format!("{}: no slot `{}` in {}", self.shown(), self.table.name(name), self.front(i));
+                let (shown, name, front) = (self.shown(), self.table.name(name), self.front(i));
+                return format!("{shown}: no slot `{name}` in {front}{}", self.which(i));
             };
             value = Value::read(heap, slot + 1);
         }
         String::new()
+    }
+
+    /// The frame that the `^` of a path are, where the first names lead to just that.
+    fn which(&self, count: usize) -> String {
+        match self.levels {
+            Some(0) if count == 0 => ", which is the program".into(),
+            Some(levels) if count == levels => {
+                let names: Vec<_> = self.names[..levels].iter().map(|&name| self.table.name(name)).collect();
+                format!(", which is `{}`", names.join("."))
+            }
+            _ => String::new(),
+        }
     }
 
     /// The frame that has no room for the last name.

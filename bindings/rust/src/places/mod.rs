@@ -13,6 +13,7 @@ mod traced;
 mod words;
 
 pub use ended::{ended, Ended};
+pub(crate) use refused::no_token;
 pub use refused::{refused, Refused};
 #[cfg(feature = "machine")]
 pub use traced::{next, stored, Next, Stored, Target};

@@ -1,9 +1,10 @@
 //! What load refuses, and where.
+use super::place;
 use super::seen::{Frame, Seen, Stopped, Text};
 use super::words::{counted, either, quoted};
 use crate::plain::layout;
 use crate::plain::parse::{parse_watched, Wanted, MOST_NESTING};
-use crate::plain::token::{in_string, Token, NAME_BYTES, STRING_BYTES};
+use crate::plain::token::{in_string, Operator, Token, NAME_BYTES, STRING_BYTES};
 use crate::{Refusal, SOURCE_BYTES};
 use std::collections::HashSet;
 
@@ -27,7 +28,10 @@ pub fn refused(source: &[u8], frames: u32, texts: u32) -> Option<Refused> {
     let Refusal(number) = parse_watched(source, frames, &mut seen).err()?;
     let text = match Text::read(source) {
         Ok(text) => text,
-        Err(at) => return Some(Refused { number, at: Some(at), detail: no_token(&source[at..]) }),
+        Err(at) => {
+            let (at, detail) = no_token(source, at);
+            return Some(Refused { number, at: Some(at), detail });
+        }
     };
     let (token, detail) = Reading { text: &text, seen: &seen }.fault(number, frames).unwrap_or_default();
     Some(Refused { number, at: Some(text.at(token)), detail })
@@ -52,9 +56,10 @@ pub fn argument(source: &[u8], frames: u32, texts: u32) -> Option<Refused> {
     })
 }
 
-/// Why the bytes at the front of `rest` form no token.
-fn no_token(rest: &[u8]) -> String {
-    match rest {
+/// Why the bytes from `at` on form no token, and the byte at which that is seen.
+pub(crate) fn no_token(source: &[u8], at: usize) -> (usize, String) {
+    let rest = &source[at..];
+    let detail = match rest {
         [b'A'..=b'Z' | b'a'..=b'z' | b'_', ..] => {
             let length = rest.iter().take_while(|&&byte| byte.is_ascii_alphanumeric() || byte == b'_').count();
             format!("a name of {length} bytes where {NAME_BYTES} is the most")
@@ -64,26 +69,51 @@ fn no_token(rest: &[u8]) -> String {
             let integer = quoted(&rest[..rest.len() - digits.len() + length]);
             format!("the integer {integer} is out of range, {} to {}", i32::MIN, i32::MAX)
         }
-        [b'"', string @ ..] => no_string(string),
-        [b'=', ..] => "a lone `=`; `:=` and `==` are tokens".into(),
+        [b'"', string @ ..] => return no_string(string, at),
+        [b'=', ..] => lone_equals(&source[..at]),
         [byte @ (b'&' | b'|'), ..] => {
             let mark = char::from(*byte);
             format!("a lone `{mark}`; `{mark}{mark}` is a token")
         }
-        [byte, ..] if byte.is_ascii_graphic() => format!("byte {byte} `{}` begins no token", char::from(*byte)),
-        [byte, ..] => format!("byte {byte} begins no token"),
-        [] => String::new(),
+        [b'\\', ..] => "byte 92 `\\` begins no token, and strings have no escapes".into(),
+        _ => no_first(rest),
+    };
+    (at, detail)
+}
+
+/// A `=` that belongs to no token, behind these bytes.
+fn lone_equals(before: &[u8]) -> String {
+    let tokens = "`:=` and `==` are tokens";
+    match before.last() {
+        Some(mark @ (b'!' | b'<' | b'+' | b'-' | b'*' | b'/')) => {
+            format!("a lone `=`; {tokens}, and `{}=` is none", char::from(*mark))
+        }
+        _ => format!("a lone `=`; {tokens}"),
     }
 }
 
-/// Why the bytes behind a `"` are no string.
-fn no_string(string: &[u8]) -> String {
+/// Bytes of which the first begins no token. A character of more than one byte is named, since some cannot be seen.
+fn no_first(rest: &[u8]) -> String {
+    let Some(&byte) = rest.first() else { return String::new() };
+    let front = &rest[..rest.len().min(4)];
+    let character = front.utf8_chunks().next().and_then(|chunk| chunk.valid().chars().next());
+    match character {
+        Some(c) if c.is_ascii_graphic() => format!("byte {byte} `{c}` begins no token"),
+        Some('\u{feff}') => "byte 239 begins no token: a byte order mark".into(),
+        Some('\u{a0}') => "byte 194 begins no token: a no-break space".into(),
+        Some(c) if !c.is_ascii() => format!("byte {byte} begins no token: the character U+{:04X}", u32::from(c)),
+        _ => format!("byte {byte} begins no token"),
+    }
+}
+
+/// Why the bytes behind the `"` at this place are no string. A byte that may not stand in one is the place itself.
+fn no_string(string: &[u8], at: usize) -> (usize, String) {
     let length = string.iter().position(|&byte| !in_string(byte)).unwrap_or(string.len());
     match string.get(length) {
-        Some(b'"') => format!("a string of {length} bytes where {STRING_BYTES} is the most"),
-        None => "a string that is not closed".into(),
-        Some(b'\n' | b'\r') => "a string that is not closed on its line".into(),
-        Some(byte) => format!("a string with byte {byte}, which may not stand in one"),
+        Some(b'"') => (at, format!("a string of {length} bytes where {STRING_BYTES} is the most")),
+        None => (at, "a string that is not closed".into()),
+        Some(b'\n' | b'\r') => (at, "a string that is not closed on its line".into()),
+        Some(byte) => (at + 1 + length, format!("byte {byte} in a string, where only 32 to 126 may stand")),
     }
 }
 
@@ -143,7 +173,61 @@ impl Reading<'_> {
             }
         }
         words.extend(words_for(stop.wanted, stop.in_code));
-        format!("expected {}, found {found}", either(&words))
+        format!("expected {}{}, found {found}{}", either(&words), self.behind(stop), self.hint(stop))
+    }
+
+    /// Where something that closes or parts is missing at the end of a line, what it should stand behind: the place is that
+    /// of the next token.
+    fn behind(&self, stop: Stopped) -> String {
+        let Some(last) = stop.at.checked_sub(1) else { return String::new() };
+        let [before, here] = [last, stop.at].map(|token| place(self.text.source, self.text.at(token)));
+        match stop.wanted {
+            Wanted::Semicolon | Wanted::NextSlot if before.line < here.line && self.text.token(stop.at).is_some() => {
+                format!(" behind {} at {}:{}", self.written(last), before.line, before.column)
+            }
+            _ => String::new(),
+        }
+    }
+
+    /// What a newcomer may have meant.
+    fn hint(&self, stop: Stopped) -> String {
+        let operator = self.seen.passed(stop.at).any(|wanted| wanted == Wanted::Operator) && stop.in_code;
+        match self.text.token(stop.at) {
+            None => self.open_bracket(),
+            Some(Token::Integer(n)) if n < 0 && operator => "; a difference has a space behind its `-`".into(),
+            Some(Token::Operator(Operator::Over | Operator::Join)) => "; comments begin with `//`".into(),
+            Some(Token::Semicolon) if stop.wanted == Wanted::Base => self.operands(stop.at).into(),
+            _ => String::new(),
+        }
+    }
+
+    /// How many operands the instruction has that ends at this token.
+    fn operands(&self, end: usize) -> &'static str {
+        let word = (0..end).rev().find_map(|at| match self.text.token(at)? {
+            word @ (Token::Show | Token::Jump | Token::Ifeq | Token::Assign) => Some(word),
+            _ => None,
+        });
+        match word {
+            Some(Token::Jump) => "; `jump` has two operands, a code and what becomes self",
+            Some(Token::Ifeq) => "; `ifeq` has three operands, a value, a code and what becomes self",
+            _ => "",
+        }
+    }
+
+    /// The innermost bracket that the source does not close.
+    fn open_bracket(&self) -> String {
+        let mut open = Vec::new();
+        for (at, (_, token)) in self.text.tokens.iter().enumerate() {
+            match token {
+                Token::OpenSquare | Token::OpenCurly => open.push(at),
+                Token::CloseSquare | Token::CloseCurly => drop(open.pop()),
+                _ => {}
+            }
+        }
+        open.last().map_or(String::new(), |&at| {
+            let place = place(self.text.source, self.text.at(at));
+            format!("; {} at {}:{} is open", self.written(at), place.line, place.column)
+        })
     }
 
     fn found(&self, stop: Stopped) -> String {
@@ -151,8 +235,7 @@ impl Reading<'_> {
         let name_wanted = matches!(stop.wanted, Wanted::Slot | Wanted::PathName | Wanted::UpOrName);
         match self.text.token(stop.at) {
             None => "the end of the source".into(),
-            // the `-` belongs to it, which may surprise
-            Some(Token::Integer(_)) if written.starts_with("`-") => format!("the integer {written}"),
+            Some(Token::Integer(_)) => format!("the integer {written}"),
             Some(
                 Token::Frame | Token::Code | Token::SelfWord | Token::Show | Token::Jump | Token::Ifeq,
             ) if name_wanted => format!("the reserved word {written}"),
@@ -252,7 +335,8 @@ impl Reading<'_> {
         let outside: Vec<_> = self.seen.frames.iter().filter(|frame| !frame.in_code).collect();
         let at = outside.get((limit as usize).checked_sub(1)?)?.at;
         let count = counted(outside.len(), "frame");
-        Some((at, format!("{count} written outside code, F is {limit}, and self needs one too")))
+        let least = 1 + outside.len();
+        Some((at, format!("{count} written outside code and one for self; F is {limit}, {least} is the least")))
     }
 }
 

@@ -77,7 +77,7 @@ pub fn read(arguments: Vec<OsString>) -> Result<Request, String> {
         return Err(format!("framed: no command is given\n{}", help::USAGE));
     };
     match first.to_str() {
-        Some("--help") => return Ok(Request::Help(None)),
+        Some("--help" | "-h" | "help") => return Ok(Request::Help(None)),
         Some("--version") => return Ok(Request::Version),
         _ => {}
     }
@@ -85,7 +85,7 @@ pub fn read(arguments: Vec<OsString>) -> Result<Request, String> {
         let name = first.to_string_lossy();
         return Err(format!("framed: no command `{name}`\n{}", help::USAGE));
     };
-    if rest.iter().any(|argument| argument == "--help") {
+    if rest.iter().any(|argument| argument == "--help" || argument == "-h") {
         return Ok(Request::Help(Some(command)));
     }
     options(command, rest)
@@ -101,13 +101,20 @@ fn options(command: Command, arguments: &[OsString]) -> Result<Options, String> 
             options.files.push(argument.clone());
             continue;
         };
+        // `--fuel 9` or `--fuel=9`
+        let (option, value) = option.split_once('=').map_or((option, None), |(name, value)| (name, Some(value)));
         if !command.options().contains(&option) {
             return Err(format!("no option `{option}`"));
         }
+        let mut number = |range| match value {
+            Some(value) => number(option, range, Some(OsStr::new(value))),
+            None => number(option, range, rest.next().map(OsString::as_os_str)),
+        };
         match option {
-            "--frames" => options.frames = number(option, rest.next())?,
-            "--texts" => options.texts = number(option, rest.next())?,
-            "--fuel" => options.fuel = number(option, rest.next())?,
+            "--frames" => options.frames = number("3 to 256")?,
+            "--texts" => options.texts = number("0 to 256")?,
+            "--fuel" => options.fuel = number("0 to 4294967295")?,
+            _ if value.is_some() => options.looks.extend(value.map(OsString::from)),
             _ => rest = looks(rest.as_slice(), &mut options)?,
         }
     }
@@ -126,8 +133,9 @@ fn files(command: Command, options: &Options) -> Result<(), String> {
     }
 }
 
-fn number(option: &str, value: Option<&OsString>) -> Result<u32, String> {
-    let wants = format!("{option} takes a number from 0 to {}", u32::MAX);
+/// A number of 32 bits; one out of the option's own range is for the library to refuse.
+fn number(option: &str, range: &str, value: Option<&OsStr>) -> Result<u32, String> {
+    let wants = format!("{option} takes a number, {range}");
     let Some(value) = value else { return Err(wants) };
     let text = value.to_string_lossy();
     text.parse().map_err(|_| format!("{wants}, not `{text}`"))

@@ -1,6 +1,6 @@
 //! A refusal or an end in words, with its place in the source.
 use framed::places::{self, Ended, Places};
-use framed::{End, Memories, Refusal};
+use framed::{End, Found, Memories, Refusal};
 use std::ops::Range;
 
 /// How many characters of an instruction are printed.
@@ -60,6 +60,43 @@ fn at_fault(ended: &Ended, range: &Range<usize>, places: &Places, source: &[u8])
     // the path need not stand twice
     let detail = ended.detail.strip_prefix(&format!("`{text}`: ")).unwrap_or(&ended.detail);
     format!("\n  {part} `{text}` ({place}){}", behind(detail))
+}
+
+/// Why a look was refused: what a path is, or where it leads no further. Empty where there is no more to say.
+pub fn why_not_found(look: impl Fn(&[u8]) -> Result<Found, Refusal>, path: &[u8], refusal: Refusal) -> String {
+    match refusal {
+        Refusal(21) => ": a path is `self` or one `^`, the program, then names: self.faults, ^.table".to_owned(),
+        Refusal(22) => nowhere(look, path).map_or(String::new(), |why| format!(": {why}")),
+        _ => String::new(),
+    }
+}
+
+/// The first part of a path that leads nowhere.
+fn nowhere(look: impl Fn(&[u8]) -> Result<Found, Refusal>, path: &[u8]) -> Option<String> {
+    let dots = (0..path.len()).filter(|&at| path[at] == b'.').chain([path.len()]);
+    let mut front: &[u8] = &[];
+    for end in dots {
+        let (part, text) = (&path[..end], String::from_utf8_lossy(front));
+        match look(part) {
+            Ok(Found::Frame) => front = part,
+            Ok(found) => return Some(format!("`{}` is {}", String::from_utf8_lossy(part), kind(found))),
+            Err(Refusal(22)) => {
+                let name = part.get(front.len() + 1..)?;
+                return Some(format!("no slot `{}` in {text}", String::from_utf8_lossy(name)));
+            }
+            Err(_) => return None,
+        }
+    }
+    None
+}
+
+fn kind(found: Found) -> &'static str {
+    match found {
+        Found::Integer(_) => "an integer and not a frame",
+        Found::Text => "a text and not a frame",
+        Found::Code => "a code and not a frame",
+        Found::Frame => "a frame",
+    }
 }
 
 /// As `3:9`.

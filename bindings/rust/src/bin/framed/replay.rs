@@ -43,8 +43,10 @@ struct Model {
     frames: u32,
 }
 
-fn told<T>(answer: Result<T, Refusal>, what: &str) -> Result<T, Refusal> {
-    answer.inspect_err(|refusal| tell(format_args!("{what}: {refusal}")))
+impl Told<'_> {
+    fn tell(&self, at: usize, words: &str) {
+        tell(format_args!("{}:{}: {words}", self.label, message::place(self.script, at)));
+    }
 }
 
 impl Calls for Told<'_> {
@@ -57,7 +59,7 @@ impl Calls for Told<'_> {
     }
 
     fn run(&mut self, fuel: u32, out: &mut [u8]) -> Result<RunReport, Refusal> {
-        let report = told(self.proved.run(fuel, out), "run")?;
+        let report = self.proved.run(fuel, out)?;
         if let (Stop::End(end), Some(model)) = (report.stop, &self.model) {
             tell(message::ended(&model.name, &model.source, model.frames, &self.proved.0, end));
         }
@@ -65,11 +67,11 @@ impl Calls for Told<'_> {
     }
 
     fn collect(&mut self) -> Result<Totals, Refusal> {
-        told(self.proved.collect(), "collect")
+        self.proved.collect()
     }
 
     fn look(&self, path: &[u8]) -> Result<Found, Refusal> {
-        told(self.proved.look(path), &String::from_utf8_lossy(path))
+        self.proved.look(path)
     }
 
     fn look_text(&self, path: &[u8]) -> Vec<u8> {
@@ -77,6 +79,14 @@ impl Calls for Told<'_> {
     }
 
     fn unfit(&mut self, at: usize, why: &str) {
-        tell(format_args!("{}:{}: {why}", self.label, message::place(self.script, at)));
+        self.tell(at, why);
+    }
+
+    fn refused(&mut self, at: usize, what: &str, refusal: Refusal) {
+        let why = match refusal {
+            Refusal(20) if self.model.is_none() => ": nothing is loaded".to_owned(),
+            _ => message::why_not_found(|path| self.proved.look(path), what.as_bytes(), refusal),
+        };
+        self.tell(at, &format!("{what}: {refusal}{why}"));
     }
 }

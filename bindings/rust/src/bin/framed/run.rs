@@ -3,7 +3,7 @@ use crate::arguments::Options;
 use crate::ending::{self, Ran};
 use crate::input::{self, Loaded};
 use crate::progress::Progress;
-use crate::{tell, Status};
+use crate::{message, tell, Status};
 use framed::{Found, Stop};
 use std::ffi::OsStr;
 use std::io::{self, Write};
@@ -61,7 +61,8 @@ fn look(loaded: &Loaded, path: &OsStr, out: &mut impl Write) -> io::Result<Statu
         Ok(Found::Frame) => b"frame".to_vec(),
         Err(refusal) => {
             out.flush()?;
-            tell(format_args!("{}: {refusal}", path.to_string_lossy()));
+            let why = message::why_not_found(|path| model.look(path), bytes, refusal);
+            tell(format_args!("{}: {refusal}{why}", path.to_string_lossy()));
             return Ok(Status::Refused);
         }
     };
