@@ -91,7 +91,7 @@ enum {
 /* Loads a source with the limits F (frames) and T (texts): the memories then hold its program at its start. What they held
  * before does not matter. Answers FRAMED_LOADED, or the lowest number from 1 to 12 that holds; then nothing is written.
  * The place of a refusal in the source is what the command `framed check MODEL` tells.
- * Stack: at most 170,144 bytes. */
+ * Stack: at most 170,144 bytes, at the deepest nesting; a level of code takes 1,792 of them. */
 uint32_t framed_load(const uint8_t *source, size_t source_length, uint32_t frames, uint32_t texts,
                      uint32_t *program, size_t program_length, uint32_t *heap, size_t heap_length,
                      uint8_t *literals, size_t literals_length, uint8_t *text_bytes, size_t text_length);

@@ -30,10 +30,13 @@ pub trait Calls {
     fn look(&self, path: &[u8]) -> Result<Found, Refusal>;
     /// The bytes of the text at the end of a path; none for another kind or a refusal.
     fn look_text(&self, path: &[u8]) -> Vec<u8>;
-    /// Is told why something was printed behind a `?`, and the byte of the script where it begins.
+    /// Is told why something has been printed behind a `?`, and the byte of the script where it begins.
     fn unfit(&mut self, _at: usize, _why: &str) {}
-    /// Is told that a run, collect or look (`what`: the call's name, or the path) was refused, and where it begins.
+    /// Is told, when that has been printed, that a call was refused (`what`: the file, the path or the call's name), and
+    /// the byte of the script where it begins.
     fn refused(&mut self, _at: usize, _what: &str, _refusal: Refusal) {}
+    /// Is told, when that has been printed, how a run stopped.
+    fn stopped(&mut self, _stop: Stop) {}
 }
 
 /// Memories, cleared at first, with the calls of one implementation.
@@ -240,7 +243,7 @@ impl<C: Calls, W: Write> Replay<'_, C, W> {
         match read_source(&self.directory.join(&*name)) {
             Ok(source) => match self.calls.load(&name, &source, frames, texts) {
                 Ok(()) => self.out.write_all(b"loaded\n"),
-                Err(Refusal(number)) => self.put_number(number),
+                Err(refusal) => self.put_refused(begin, &name, refusal),
             },
             // the memories are still those of an earlier load: so no further call is made
             Err(error) => {
@@ -257,7 +260,9 @@ impl<C: Calls, W: Write> Replay<'_, C, W> {
             Ok(RunReport { stop, steps, bytes }) => {
                 self.replayed.stop = Some(stop);
                 self.out.write_all(&shown[..bytes])?;
-                writeln!(self.out, "run {stop} steps {steps} bytes {bytes}")
+                writeln!(self.out, "run {stop} steps {steps} bytes {bytes}")?;
+                self.calls.stopped(stop);
+                Ok(())
             }
             Err(refusal) => self.put_refused(begin, "run", refusal),
         }
@@ -283,13 +288,9 @@ impl<C: Calls, W: Write> Replay<'_, C, W> {
         }
     }
 
-    fn put_number(&mut self, number: u32) -> io::Result<()> {
-        self.replayed.refused = true;
-        writeln!(self.out, "refused {number}")
-    }
-
     fn put_refused(&mut self, at: usize, what: &str, refusal: Refusal) -> io::Result<()> {
-        self.put_number(refusal.0)?;
+        self.replayed.refused = true;
+        writeln!(self.out, "refused {}", refusal.0)?;
         self.calls.refused(at, what, refusal);
         Ok(())
     }

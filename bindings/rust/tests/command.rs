@@ -1,16 +1,15 @@
 //! The command `framed`: its exit statuses, what it prints and what it says.
 #![cfg(feature = "machine")]
 
+mod common;
+
+use common::{index, top};
 use framed::Found;
 use std::fs::{self, File};
 use std::io::Write;
 use std::path::{Path, PathBuf};
 use std::process::{Command, Output, Stdio};
 use std::sync::Once;
-
-fn top() -> PathBuf {
-    Path::new(env!("CARGO_MANIFEST_DIR")).join("../..")
-}
 
 /// A folder for the models of the tests; each test has names of its own.
 fn folder() -> PathBuf {
@@ -93,13 +92,9 @@ fn run_prints_what_is_stored() {
 /// Sources of the corpus print what `framerun` prints; refused ones nothing on standard output.
 #[test]
 fn run_is_framerun() {
-    let data = top().join("crates/framecorpus/data");
-    let Ok(index) = fs::read_to_string(data.join("index")) else {
-        eprintln!("{} has no index", data.display());
-        return;
-    };
-    for name in index.lines() {
-        let printed = framed::plain::framerun(&fs::read(data.join(name)).unwrap());
+    let (data, names) = index("framecorpus");
+    for name in names {
+        let printed = framed::plain::framerun(&fs::read(data.join(&name)).unwrap());
         let printed = String::from_utf8(printed).unwrap();
         let (status, out, err) = answer(command(&data, &format!("run {name}")).output().unwrap());
         let last = printed.lines().next_back().unwrap();
@@ -349,16 +344,11 @@ fn check_goes_on() {
 /// The number is always the proved library's: the place is of the same one, for each source of the corpus.
 #[test]
 fn check_corpus() {
-    let data = top().join("crates/framecorpus/data");
-    let Ok(index) = fs::read_to_string(data.join("index")) else {
-        eprintln!("{} has no index", data.display());
-        return;
-    };
-    let names: Vec<&str> = index.lines().collect();
+    let (data, names) = index("framecorpus");
     let (_, out, err) = answer(command(&data, &format!("check {}", names.join(" "))).output().unwrap());
     let mut refused = err.lines().filter(|line| line.contains(": refused "));
     for name in names {
-        match framed::machine::Model::load(&fs::read(data.join(name)).unwrap(), 256, 256) {
+        match framed::machine::Model::load(&fs::read(data.join(&name)).unwrap(), 256, 256) {
             Ok(_) => assert!(out.contains(&format!("{name}: loads\n"))),
             Err(refusal) => {
                 let line = refused.next().unwrap();
@@ -460,12 +450,8 @@ fn trace_values_are_looked_at() {
 /// Every model of the corpus has a trace with a line for each step.
 #[test]
 fn trace_corpus() {
-    let data = top().join("crates/framecorpus/data");
-    let Ok(index) = fs::read_to_string(data.join("index")) else {
-        eprintln!("{} has no index", data.display());
-        return;
-    };
-    for name in index.lines() {
+    let (data, names) = index("framecorpus");
+    for name in names {
         let at =
             |arguments: &str| answer(command(&data, &format!("{arguments} {name} --fuel 2000")).output().unwrap());
         let (run, trace) = (at("run"), at("trace"));
@@ -552,10 +538,22 @@ fn replay_statuses() {
     is(framed_input("replay -", &long), 4, "? script longer than 65536 bytes\n", said);
 }
 
+/// A long run of a script is made in slices, which its print does not show.
+#[test]
+fn replay_long_run() {
+    file("long.framed", "frame: [ Main := frame: [
+        start := code { self.n := 700000; show \"first\"; jump ^.loop self; },
+        loop := code { self.n := self.n - 1; ifeq self.n ^.last self; jump ^.loop self; },
+        last := code { show \"last\"; show \"too long\"; } ] ]");
+    let script = "load \"long.framed\" 3 0 run 1500000 99 run -1 10 run 1 8";
+    let printed = "loaded\nfirst\nrun fuel steps 1500000 bytes 6\nlast\nrun output steps 600003 bytes 5\nrun output steps 0 bytes 0\n";
+    is(framed_input("replay -", script), 3, printed, "");
+}
+
 #[test]
 fn replay_stored_script() {
     let replay = top().join("crates/replay");
-    let Ok(stored) = fs::read_to_string(replay.join("stdout")) else { return };
+    let stored = fs::read_to_string(replay.join("stdout")).unwrap();
     let (_, out, _) = answer(command(&replay.join("data"), "replay ../stdin").output().unwrap());
     assert_eq!(out, stored);
     is(framed("replay absent.script"), 4, "", "absent.script: No such file or directory\n");

@@ -1,16 +1,11 @@
 //! Scripts over the plain implementation and over the proved library print what is stored for the program `replay`.
+mod common;
+
+use common::{check_beside, check_index, text, top};
 use framed::replay::{replay, Calls, Plain, Replayed};
 use framed::{Refusal, Stop};
 use std::fs;
 use std::path::{Path, PathBuf};
-
-fn crates() -> PathBuf {
-    Path::new(env!("CARGO_MANIFEST_DIR")).join("../../crates")
-}
-
-fn text(bytes: &[u8]) -> String {
-    String::from_utf8_lossy(bytes).into_owned()
-}
 
 /// What a script prints on cleared memories, and what it came to.
 fn replayed(script: &[u8], directory: &Path, calls: &mut impl Calls) -> (Vec<u8>, Replayed) {
@@ -33,49 +28,25 @@ fn print(script: &[u8], directory: &Path) -> Vec<u8> {
 /// A folder like crates/replay: the script `stdin` beside the folder `data` prints `stdout`.
 #[test]
 fn stored_script() {
-    let top = std::env::var_os("FRAMED_REPLAY").map_or_else(|| crates().join("replay"), PathBuf::from);
-    let Ok(script) = fs::read(top.join("stdin")) else {
-        eprintln!("{} has no script", top.display());
-        return;
-    };
-    let printed = print(&script, &top.join("data"));
+    let folder = std::env::var_os("FRAMED_REPLAY").map_or_else(|| top().join("crates/replay"), PathBuf::from);
+    let printed = print(&fs::read(folder.join("stdin")).unwrap(), &folder.join("data"));
     if std::env::var_os("FRAMED_PRINT").is_some() {
-        fs::write(top.join("stdout"), &printed).unwrap();
+        fs::write(folder.join("stdout"), &printed).unwrap();
     }
-    assert_eq!(text(&printed), text(&fs::read(top.join("stdout")).unwrap()));
+    assert_eq!(text(&printed), text(&fs::read(folder.join("stdout")).unwrap()));
 }
 
 /// The scripts of the program `replaycorpus`, in the order of its index, print its stored output.
 #[test]
 fn corpus() {
-    let dir = crates().join("replaycorpus");
-    let Ok(index) = fs::read_to_string(dir.join("data/index")) else {
-        eprintln!("{} has no index", dir.display());
-        return;
-    };
-    let mut printed = Vec::new();
-    for name in index.lines() {
-        printed.extend_from_slice(format!("{name}\n").as_bytes());
-        printed.extend(print(&fs::read(dir.join("data").join(name)).unwrap(), &dir.join("data")));
-    }
-    assert_eq!(text(&printed), text(&fs::read(dir.join("stdout")).unwrap()));
+    check_index("replaycorpus", print);
 }
 
 /// Every `NAME.script` of the folder that FRAMED_SCRIPTS names prints `NAME.out`; its files lie beside it.
 #[test]
 fn further_scripts() {
-    let Some(dir) = std::env::var_os("FRAMED_SCRIPTS").map(PathBuf::from) else { return };
-    let mut scripts: Vec<_> = fs::read_dir(&dir)
-        .unwrap_or_else(|error| panic!("{}: {error}", dir.display()))
-        .map(|entry| entry.unwrap().path())
-        .filter(|path| path.extension().is_some_and(|extension| extension == "script"))
-        .collect();
-    scripts.sort();
-    assert!(!scripts.is_empty(), "no scripts in {}", dir.display());
-    for path in scripts {
-        let printed = print(&fs::read(&path).unwrap(), &dir);
-        let stored = fs::read(path.with_extension("out")).unwrap();
-        assert_eq!(text(&printed), text(&stored), "{}", path.display());
+    if let Some(dir) = std::env::var_os("FRAMED_SCRIPTS").map(PathBuf::from) {
+        check_beside(&dir, "script", |script| print(script, &dir));
     }
 }
 
@@ -147,7 +118,7 @@ fn longest_script() {
 /// What a replay came to.
 #[test]
 fn outcomes() {
-    let data = crates().join("replaycorpus/data");
+    let data = top().join("crates/replaycorpus/data");
     let outcome = |script: &str| replayed(script.as_bytes(), &data, &mut Plain::default()).1;
     let none = outcome("load \"printed.framed\" 3 1 collect");
     assert_eq!((none.unfit, none.refused, none.stop), (false, false, None));

@@ -1,5 +1,4 @@
 // The lines of a text, as of a list of file names.
-ghost use lib.ListN.{length};
 ghost use Rattle.lines.specs.Lines.{LineEnds};
 
 // Where the line that begins there ends: before byte 10, or at the end of the text.

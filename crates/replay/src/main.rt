@@ -9,9 +9,5 @@ fn main() {
         replaying::put_unfit(b"standard input");
         return;
     };
-    let mut p = [0u32; 16384];
-    let mut h = [0u32; 16384];
-    let mut l = [0u8; 8192];
-    let mut t = [0u8; 16384];
-    replaying::replay(printing::front(&script, n), &mut p, &mut h, &mut l, &mut t);
+    replaying::replay(printing::front(&script, n));
 }

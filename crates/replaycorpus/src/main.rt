@@ -1,4 +1,4 @@
-// For each script that the file `index` names: the name, and what its replay on cleared memories prints.
+// For each script that the file `index` names: the name, and what its replay prints.
 use input::Input;
 use libc::STDOUT_FILENO;
 
@@ -10,11 +10,7 @@ fn replay_file(name: &[u8]) {
     };
     io::write_all(STDOUT_FILENO, name);
     io::write_all(STDOUT_FILENO, b"\n");
-    let mut p = [0u32; 16384];
-    let mut h = [0u32; 16384];
-    let mut l = [0u8; 8192];
-    let mut t = [0u8; 16384];
-    replaying::replay(printing::front(&script, n), &mut p, &mut h, &mut l, &mut t);
+    replaying::replay(printing::front(&script, n));
 }
 
 fn replay_files(index: &[u8]) {

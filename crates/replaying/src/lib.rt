@@ -1,4 +1,4 @@
-// The calls of a script: each is made on the lent memories, and its answer printed.
+// The calls of a script: each is made on the same memories, and its answer printed.
 use framed::CollectAnswer;
 use framed::LookAnswer;
 use framed::RunAnswer;
@@ -261,17 +261,15 @@ fn make_calls(
     put_open(s, script, call, at);
 }
 
-// Replays a script. One that is too long is refused before any call.
-pub fn replay(
-    s: &[u8],
-    p: &mut [u32; 16384],
-    h: &mut [u32; 16384],
-    l: &mut [u8; 8192],
-    t: &mut [u8; 16384],
-) {
+// Replays a script on cleared memories. One that is too long is refused before any call.
+pub fn replay(s: &[u8]) {
     if s.len() > 65536 {
         put_unfit(b"script longer than 65536 bytes");
         return;
     }
-    make_calls(s, p, h, l, t);
+    let mut p = [0u32; 16384];
+    let mut h = [0u32; 16384];
+    let mut l = [0u8; 8192];
+    let mut t = [0u8; 16384];
+    make_calls(s, &mut p, &mut h, &mut l, &mut t);
 }

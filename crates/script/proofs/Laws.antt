@@ -3,7 +3,7 @@ use mathlib.Core.Path.{_≡_, sym, _∙_}
 use mathlib.Core.Bool.{Bool, true, false}
 use mathlib.Core.List.{List, [], _∷_}
 use Prim.Native.Nat.{ℕ, _<_, _≤_}
-use borrow.Author.Tests.{eq-eqb, ne-eqb, le-leb, lt-leb}
+use borrow.Author.Tests.{ne-eqb, le-leb, lt-leb}
 use Rattle.framed.specs.Common.{bytes, same}
 use Rattle.source.specs.Positions.{part}
 use Rattle.script.specs.Script.{is-open, called, after-name, string-for, after-string, space-for, integer-for, after-integer, after-token}
@@ -12,9 +12,6 @@ use Rattle.script.specs.declared.Call.{Call}
 use Rattle.script.specs.declared.Script.{Script}
 
 -- ---- By the case that it is
-
-pub open-as : (x y : Script) → x ≡ y → (r : Bool) → r ≡ is-open y → r ≡ is-open x
-open-as x y e r h = rw (e) h
 
 pub string-as : (x y : Argument) → x ≡ y → (a p : ℕ) (r : Script) → r ≡ string-for y a p → r ≡ string-for x a p
 string-as x y e a p r h = rw (e) h

@@ -3,6 +3,55 @@
 #![allow(dead_code)]
 
 use framed::Memories;
+use std::fs;
+use std::path::{Path, PathBuf};
+
+/// The top of the repository.
+pub fn top() -> PathBuf {
+    Path::new(env!("CARGO_MANIFEST_DIR")).join("../..")
+}
+
+pub fn text(bytes: &[u8]) -> String {
+    String::from_utf8_lossy(bytes).into_owned()
+}
+
+/// The folder `data` of a crate, and the files in it that its `index` names.
+pub fn index(name: &str) -> (PathBuf, Vec<String>) {
+    let data = top().join("crates").join(name).join("data");
+    let index = fs::read_to_string(data.join("index")).unwrap_or_else(|error| panic!("{name}: {error}"));
+    (data, index.lines().map(str::to_owned).collect())
+}
+
+/// The names in the index of a crate, each with the print of its file behind it, are what the crate's program prints.
+pub fn check_index(name: &str, print: impl Fn(&[u8], &Path) -> Vec<u8>) {
+    let (data, names) = index(name);
+    let mut printed = Vec::new();
+    for name in names {
+        printed.extend_from_slice(format!("{name}\n").as_bytes());
+        printed.extend(print(&fs::read(data.join(name)).unwrap(), &data));
+    }
+    assert_eq!(text(&printed), text(&fs::read(data.join("../stdout")).unwrap()));
+}
+
+/// The files of a folder that end with this, at least one.
+fn files(folder: &Path, extension: &str) -> Vec<PathBuf> {
+    let mut files: Vec<_> = fs::read_dir(folder)
+        .unwrap_or_else(|error| panic!("{}: {error}", folder.display()))
+        .map(|entry| entry.unwrap().path())
+        .filter(|path| path.extension().is_some_and(|found| found == extension))
+        .collect();
+    files.sort();
+    assert!(!files.is_empty(), "no {extension} in {}", folder.display());
+    files
+}
+
+/// Every `NAME.EXTENSION` of a folder prints its `NAME.out`.
+pub fn check_beside(folder: &Path, extension: &str, print: impl Fn(&[u8]) -> Vec<u8>) {
+    for path in files(folder, extension) {
+        let stored = fs::read(path.with_extension("out")).unwrap();
+        assert_eq!(text(&print(&fs::read(&path).unwrap())), text(&stored), "{}", path.display());
+    }
+}
 
 pub fn rounds(usual: u64) -> u64 {
     std::env::var("FRAMED_ROUNDS").ok().and_then(|n| n.parse().ok()).unwrap_or(usual)
@@ -403,14 +452,9 @@ pub fn other_length(memories: &Memories, random: &mut Random) -> Memories {
 
 /// All sources that lie beside the repository's programs.
 pub fn stored_sources() -> Vec<Vec<u8>> {
-    let top = std::path::PathBuf::from(env!("CARGO_MANIFEST_DIR")).join("../..");
-    let mut paths: Vec<_> = [top.join("examples"), top.join("crates/framecorpus/data")]
+    ["examples", "crates/framecorpus/data", "crates/replaycorpus/data", "crates/replay/data"]
         .iter()
-        .filter_map(|dir| std::fs::read_dir(dir).ok())
-        .flatten()
-        .map(|entry| entry.unwrap().path())
-        .filter(|path| path.extension().is_some_and(|extension| extension == "framed"))
-        .collect();
-    paths.sort();
-    paths.iter().map(|path| std::fs::read(path).unwrap()).collect()
+        .flat_map(|folder| files(&top().join(folder), "framed"))
+        .map(|path| fs::read(path).unwrap())
+        .collect()
 }

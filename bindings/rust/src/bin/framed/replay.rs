@@ -1,7 +1,7 @@
 //! `framed replay`: the calls of a script over the proved library. Refusals, ends and what does not fit are told in words
 //! beside the print, which is that of the program `replay`.
 use crate::arguments::Options;
-use crate::{ending, input, message, tell, Status};
+use crate::{ending, input, message, run, tell, Status};
 use framed::replay::{self, Calls, Proved, Replayed, SCRIPT_BYTES};
 use framed::{Found, Refusal, RunReport, Stop, Totals};
 use std::io::{self, Write};
@@ -13,7 +13,7 @@ pub fn replay(options: &Options, out: &mut impl Write) -> io::Result<Status> {
         Err(status) => return Ok(status),
     };
     let label = options.files[0].to_string_lossy().into_owned();
-    let mut calls = Told { label, script: &script, proved: Proved::default(), model: None };
+    let mut calls = Told { label, script: &script, proved: Proved::default(), model: None, refused: None };
     let replayed = replay::replay(&script, Path::new(""), &mut calls, out)?;
     Ok(status(&replayed))
 }
@@ -34,6 +34,8 @@ struct Told<'a> {
     script: &'a [u8],
     proved: Proved,
     model: Option<Model>,
+    /// What is wrong with a model that was just refused.
+    refused: Option<String>,
 }
 
 /// The file that was loaded last, its source, and F.
@@ -51,19 +53,16 @@ impl Told<'_> {
 
 impl Calls for Told<'_> {
     fn load(&mut self, name: &str, source: &[u8], frames: u32, texts: u32) -> Result<(), Refusal> {
-        self.proved
-            .load(name, source, frames, texts)
-            .inspect_err(|&refusal| tell(message::refused(name, source, frames, texts, refusal)))?;
-        self.model = Some(Model { name: name.to_owned(), source: source.to_owned(), frames });
-        Ok(())
+        let loaded = self.proved.load(name, source, frames, texts);
+        match loaded {
+            Ok(()) => self.model = Some(Model { name: name.to_owned(), source: source.to_owned(), frames }),
+            Err(refusal) => self.refused = Some(message::refused(name, source, frames, texts, refusal)),
+        }
+        loaded
     }
 
     fn run(&mut self, fuel: u32, out: &mut [u8]) -> Result<RunReport, Refusal> {
-        let report = self.proved.run(fuel, out)?;
-        if let (Stop::End(end), Some(model)) = (report.stop, &self.model) {
-            tell(message::ended(&model.name, &model.source, model.frames, &self.proved.0, end));
-        }
-        Ok(report)
+        run::slices(fuel, |slice, used| self.proved.run(slice, &mut out[used..]))
     }
 
     fn collect(&mut self) -> Result<Totals, Refusal> {
@@ -82,7 +81,16 @@ impl Calls for Told<'_> {
         self.tell(at, why);
     }
 
+    fn stopped(&mut self, stop: Stop) {
+        if let (Stop::End(end), Some(model)) = (stop, &self.model) {
+            tell(message::ended(&model.name, &model.source, model.frames, &self.proved.0, end));
+        }
+    }
+
     fn refused(&mut self, at: usize, what: &str, refusal: Refusal) {
+        if let Some(words) = self.refused.take() {
+            return tell(words);
+        }
         let why = match refusal {
             Refusal(20) if self.model.is_none() => ": nothing is loaded".to_owned(),
             _ => message::why_not_found(|path| self.proved.look(path), what.as_bytes(), refusal),

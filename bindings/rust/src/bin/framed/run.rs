@@ -4,7 +4,7 @@ use crate::ending::{self, Ran};
 use crate::input::{self, Loaded};
 use crate::progress::Progress;
 use crate::{message, tell, Status};
-use framed::{Found, Stop};
+use framed::{Found, RunReport, Stop};
 use std::ffi::OsStr;
 use std::io::{self, Write};
 
@@ -17,7 +17,7 @@ pub fn run(options: &Options, out: &mut impl Write) -> io::Result<Status> {
         Ok(loaded) => loaded,
         Err(status) => return Ok(status),
     };
-    let ran = slices(&mut loaded, options.fuel, out)?;
+    let ran = written_run(&mut loaded, options.fuel, out)?;
     let mut status = ending::finish(&mut loaded, &ran, out)?;
     for path in &options.looks {
         let looked = look(&loaded, path, out)?;
@@ -28,7 +28,25 @@ pub fn run(options: &Options, out: &mut impl Write) -> io::Result<Status> {
     Ok(status)
 }
 
-fn slices(loaded: &mut Loaded, fuel: u32, out: &mut impl Write) -> io::Result<Ran> {
+/// A run whose shows stay in the caller's buffer, in slices so that a long one tells its steps. `run` is given the fuel of a
+/// slice and the bytes of the buffer that are used.
+pub fn slices<E>(fuel: u32, mut run: impl FnMut(u32, usize) -> Result<RunReport, E>) -> Result<RunReport, E> {
+    let mut progress = Progress::new();
+    let (mut steps, mut bytes) = (0, 0);
+    loop {
+        let report = run(FUEL.min(fuel - steps), bytes)?;
+        steps += report.steps;
+        bytes += report.bytes;
+        if report.stop != Stop::Fuel || steps == fuel {
+            progress.clear();
+            return Ok(RunReport { stop: report.stop, steps, bytes });
+        }
+        progress.show(steps);
+    }
+}
+
+/// A run whose shows are written as they come: so a full buffer does not stop it.
+fn written_run(loaded: &mut Loaded, fuel: u32, out: &mut impl Write) -> io::Result<Ran> {
     let mut shown = vec![0; SPACE];
     let mut progress = Progress::new();
     let mut steps = 0;
