@@ -7,7 +7,7 @@ WARNINGS := -std=c99 -Wall -Wextra -Wpedantic
 LIBRARY := target/staticlib/libframed_c.a
 PROGRAMS := target/bin/framerun target/bin/replay
 COMMAND := bindings/rust/target/release/framed
-EXAMPLES := target/embed target/many
+EXAMPLES := target/embed target/many target/tidy
 CARGO := --release --offline --manifest-path bindings/rust/Cargo.toml
 VERSION := $(shell sed -n 's/^\#define FRAMED_VERSION "\(.*\)"$$/\1/p' include/framed.h)
 
@@ -24,7 +24,7 @@ help:
 	@echo '  library    $(LIBRARY), for C and Rust (rt check framed_c, rt staticlib framed_c)'
 	@echo '  programs   target/bin/framerun and target/bin/replay (rt check framerun replay)'
 	@echo '  command    the Rust command framed, in bindings/rust/target/release'
-	@echo '  examples   the C examples target/embed and target/many'
+	@echo '  examples   the C examples target/embed, target/many and target/tidy'
 	@echo '  test       the Rust tests, and through them the C examples'
 	@echo '  install    library, header, framed.pc, framerun, replay and framed below PREFIX=$(PREFIX), staged in DESTDIR'
 	@echo '  install-library, install-programs    the two halves of it: the first needs no cargo'

@@ -8,7 +8,7 @@
  * Build:  make library               (target/staticlib/libframed_c.a, x86-64 Linux)
  *         cc -Iinclude model.c target/staticlib/libframed_c.a
  *
- * Most callers want `struct framed_memories` and the calls framed_memories_.. at the end. The five calls that these stand
+ * Most callers want `struct framed_memories` and the calls framed_memories_.. at the end. The six calls that these stand
  * on take each memory as a pointer and a length. A pointer to an array of length 0 may be anything but null. Arrays and
  * numbers that a call writes must not overlap any other argument.
  *
@@ -26,9 +26,9 @@ extern "C" {
 #endif
 
 #define FRAMED_VERSION_MAJOR 0
-#define FRAMED_VERSION_MINOR 2
+#define FRAMED_VERSION_MINOR 3
 #define FRAMED_VERSION_PATCH 0
-#define FRAMED_VERSION "0.2.0"
+#define FRAMED_VERSION "0.3.0"
 
 /* The lengths that the four memories must have, in words and bytes. */
 #define FRAMED_PROGRAM_WORDS 16384
@@ -43,6 +43,7 @@ extern "C" {
 #define FRAMED_MAX_TEXTS 256      /* T, the made text limit given to load, from 0 on */
 #define FRAMED_STRING_BYTES 64    /* the longest text */
 #define FRAMED_LINE_BYTES 65      /* the longest line of a show, with its byte 10 */
+#define FRAMED_TEXT_BUFFER 32767  /* a buffer of this length is never too short for write, where load made the memories */
 
 /* What load answers. A refused load changes nothing. */
 enum {
@@ -61,7 +62,7 @@ enum {
     FRAMED_WRITTEN_FRAMES = 12 /* F or more frames are written outside code */
 };
 
-/* What run, collect and look answer to memories that are not whole: nothing is changed. */
+/* What every other call answers to memories that are not whole: nothing is changed. */
 #define FRAMED_NOT_WHOLE 20
 
 /* Why a run stopped (or FRAMED_NOT_WHOLE). */
@@ -86,6 +87,12 @@ enum {
     FRAMED_FRAME = 4,
     FRAMED_NOT_PATH = 21, /* the text is not such a path */
     FRAMED_UNDEFINED = 22 /* the path leads nowhere */
+};
+
+/* What write answers (or FRAMED_NOT_WHOLE). A refused write changes nothing. */
+enum {
+    FRAMED_WRITTEN = 0,
+    FRAMED_SHORT_BUFFER = 23 /* the buffer is shorter than the text */
 };
 
 /* Loads a source with the limits F (frames) and T (texts): the memories then hold its program at its start. What they held
@@ -126,7 +133,19 @@ size_t framed_look_text(const uint32_t *program, size_t program_length, const ui
                         const uint8_t *literals, size_t literals_length, const uint8_t *text_bytes, size_t text_length,
                         const uint8_t *path, size_t path_length, uint8_t *out, size_t out_length);
 
-/* What a refusal or an end says, by its number: 1 to 12, 20 to 22, 31 to 37. What a run answers has the next one; what a look
+/* Writes the program as Framed text to the front of `out`, without a byte 0 or 10 at its end, and *length becomes the
+ * length of the text. Nothing behind it is written. Loaded with the same F and T, a text of at most FRAMED_SOURCE_BYTES
+ * bytes leaves the memories word for word as the first load left them. No run and no collect changes the text. Answers
+ * FRAMED_WRITTEN; with FRAMED_SHORT_BUFFER or FRAMED_NOT_WHOLE nothing is written, *length included. For memories that load
+ * made, with any runs and collects since, FRAMED_TEXT_BUFFER bytes are enough; others may have a text of any length, of
+ * which no more is looked at than the buffer is long.
+ * Stack: at most 15,281 bytes over program words that load wrote, 336,464 over any memories, which may nest frames and code
+ * deeper than a source. */
+uint32_t framed_write(const uint32_t *program, size_t program_length, const uint32_t *heap, size_t heap_length,
+                      const uint8_t *literals, size_t literals_length, const uint8_t *text_bytes, size_t text_length,
+                      uint8_t *out, size_t out_length, size_t *length);
+
+/* What a refusal or an end says, by its number: 1 to 12, 20 to 23, 31 to 37. What a run answers has the next one; what a look
  * finds (1 to 4) is no refusal and has none. */
 static inline const char *framed_message(uint32_t number) {
     switch (number) {
@@ -146,6 +165,7 @@ static inline const char *framed_message(uint32_t number) {
     case 20: return "the memories are not whole";
     case 21: return "not a path";
     case 22: return "the path leads nowhere";
+    case 23: return "the buffer is shorter than the text";
     case 31: return "no rule applies";
     case 32: return "divisor 0";
     case 33: return "integer result out of range";
@@ -226,6 +246,13 @@ static inline size_t framed_memories_look_text(const struct framed_memories *m, 
     return framed_look_text(m->program, FRAMED_PROGRAM_WORDS, m->heap, FRAMED_HEAP_WORDS, m->literals,
                             FRAMED_LITERAL_BYTES, m->texts, FRAMED_TEXT_BYTES, (const uint8_t *)path,
                             framed_path_length(path), (uint8_t *)out, out_length);
+}
+
+/* framed_write. What it writes to `out` has no byte 0 at its end. */
+static inline uint32_t framed_memories_write(const struct framed_memories *m, void *out, size_t out_length,
+                                             size_t *length) {
+    return framed_write(m->program, FRAMED_PROGRAM_WORDS, m->heap, FRAMED_HEAP_WORDS, m->literals, FRAMED_LITERAL_BYTES,
+                        m->texts, FRAMED_TEXT_BYTES, (uint8_t *)out, out_length, length);
 }
 
 #ifdef __cplusplus

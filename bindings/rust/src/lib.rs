@@ -32,8 +32,11 @@ pub const LITERAL_BYTES: usize = 8_192;
 pub const TEXT_BYTES: usize = 16_384;
 /// The longest source that loads, in bytes.
 pub const SOURCE_BYTES: usize = 16_384;
+/// A buffer of so many bytes is never too short for write, where load made the memories, with any runs and collects since:
+/// a text has less than twice the bytes of its source.
+pub const TEXT_BUFFER: usize = 32_767;
 
-/// Why a call was refused: 1 to 12 by load, 20 by run, collect and look, 21 and 22 by look.
+/// Why a call was refused: 1 to 12 by load, 20 by every other call, 21 and 22 by look, 23 by write.
 #[derive(Clone, Copy, Debug, PartialEq, Eq, PartialOrd, Ord, Hash)]
 pub struct Refusal(pub u32);
 
@@ -56,6 +59,7 @@ impl Refusal {
             20 => "the memories are not whole",
             21 => "not a path",
             22 => "the path leads nowhere",
+            23 => "the buffer is shorter than the text",
             _ => "no number of a refusal",
         }
     }
@@ -179,7 +183,7 @@ pub struct Memories {
 }
 
 impl Memories {
-    /// Memories of the right lengths, cleared. Nothing is loaded yet: run, collect and look refuse them.
+    /// Memories of the right lengths, cleared. Nothing is loaded yet: every call but load refuses them.
     pub fn new() -> Memories {
         Memories {
             program: vec![0; PROGRAM_WORDS].into(),

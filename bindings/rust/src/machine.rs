@@ -2,7 +2,7 @@
 //!
 //! The library has no precondition beyond what Rust's references give: slices of any lengths and contents, of which those
 //! that are written overlap no other.
-use crate::{End, Found, Memories, Refusal, RunReport, Stop, Totals};
+use crate::{End, Found, Memories, Refusal, RunReport, Stop, Totals, TEXT_BUFFER};
 
 mod sys {
     extern "C" {
@@ -78,6 +78,20 @@ mod sys {
             out: *mut u8,
             out_length: usize,
         ) -> usize;
+
+        pub fn framed_write(
+            program: *const u32,
+            program_length: usize,
+            heap: *const u32,
+            heap_length: usize,
+            literals: *const u8,
+            literals_length: usize,
+            text_bytes: *const u8,
+            text_length: usize,
+            out: *mut u8,
+            out_length: usize,
+            length: *mut usize,
+        ) -> u32;
     }
 }
 
@@ -240,6 +254,39 @@ pub fn look_text(program: &[u32], heap: &[u32], literals: &[u8], texts: &[u8], p
     out[..length].to_vec()
 }
 
+/// Writes the program as Framed text to the front of `out` and gives the length of the text; nothing else of `out` is
+/// touched. No run and no collect changes the text. Refused: 23 where `out` is shorter than the text.
+pub fn write(
+    program: &[u32],
+    heap: &[u32],
+    literals: &[u8],
+    texts: &[u8],
+    out: &mut [u8],
+) -> Result<usize, Refusal> {
+    let mut length = 0;
+    // SAFETY: as in `load`
+    let number = unsafe {
+        sys::framed_write(
+            program.as_ptr(),
+            program.len(),
+            heap.as_ptr(),
+            heap.len(),
+            literals.as_ptr(),
+            literals.len(),
+            texts.as_ptr(),
+            texts.len(),
+            out.as_mut_ptr(),
+            out.len(),
+            &mut length,
+        )
+    };
+    if number == 0 {
+        Ok(length)
+    } else {
+        Err(Refusal(number))
+    }
+}
+
 /// A loaded program with its memories. Nobody else writes them, so that no run and no collect is refused. A clone is a saved
 /// state: it runs on from where the model stood.
 #[derive(Clone, PartialEq, Eq)]
@@ -277,6 +324,23 @@ impl Model {
     pub fn look_text(&self, path: impl AsRef<[u8]>) -> Vec<u8> {
         let m = &self.memories;
         look_text(&m.program, &m.heap, &m.literals, &m.texts, path.as_ref())
+    }
+
+    /// The program as Framed text, on one line: loaded with the same limits it is the same program, as long as it has no
+    /// more than [`SOURCE_BYTES`](crate::SOURCE_BYTES) bytes. It is that of the source, whatever was run since. Never refused
+    /// for a program that was loaded; memories that no load made may have a text above [`TEXT_BUFFER`] bytes (23).
+    pub fn text(&self) -> Result<Vec<u8>, Refusal> {
+        let mut text = vec![0; TEXT_BUFFER];
+        let length = self.write(&mut text)?;
+        text.truncate(length);
+        Ok(text)
+    }
+
+    /// The same into a buffer: writes the text to the front of `out` and gives its length. Refused where `out` is shorter
+    /// (23), and then nothing is written.
+    pub fn write(&self, out: &mut [u8]) -> Result<usize, Refusal> {
+        let m = &self.memories;
+        write(&m.program, &m.heap, &m.literals, &m.texts, out)
     }
 
     /// A model of memories that were saved. Where they are not whole, they come back with the refusal (20).

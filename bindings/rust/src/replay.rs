@@ -18,8 +18,9 @@ use std::path::Path;
 
 /// The longest script, in bytes.
 pub const SCRIPT_BYTES: usize = 65_536;
-/// The largest output space of a run, in bytes.
-const SPACE: u32 = 4_096;
+/// The largest output space of a run, and the largest buffer of a write, in bytes.
+const RUN_SPACE: u32 = 4_096;
+const WRITE_SPACE: u32 = 32_768;
 
 /// The calls that a script makes, on memories of their own.
 pub trait Calls {
@@ -30,6 +31,8 @@ pub trait Calls {
     fn look(&self, path: &[u8]) -> Result<Found, Refusal>;
     /// The bytes of the text at the end of a path; none for another kind or a refusal.
     fn look_text(&self, path: &[u8]) -> Vec<u8>;
+    /// The program as Framed text at the front of `out`: its length.
+    fn write(&self, out: &mut [u8]) -> Result<usize, Refusal>;
     /// Is told why something has been printed behind a `?`, and the byte of the script where it begins.
     fn unfit(&mut self, _at: usize, _why: &str) {}
     /// Is told, when that has been printed, that a call was refused (`what`: the file, the path or the call's name), and
@@ -71,6 +74,11 @@ macro_rules! calls {
             fn look_text(&self, path: &[u8]) -> Vec<u8> {
                 let m = &self.0;
                 $module::look_text(&m.program, &m.heap, &m.literals, &m.texts, path).to_vec()
+            }
+
+            fn write(&self, out: &mut [u8]) -> Result<usize, Refusal> {
+                let m = &self.0;
+                $module::write(&m.program, &m.heap, &m.literals, &m.texts, out)
             }
         }
     };
@@ -141,9 +149,10 @@ fn arguments(name: &[u8]) -> Option<&'static [Argument]> {
     use Argument::{Number, Text};
     Some(match name {
         b"load" => &[Text("FILE"), Number("F", u32::MAX), Number("T", u32::MAX)],
-        b"run" => &[Number("FUEL", u32::MAX), Number("SPACE", SPACE)],
+        b"run" => &[Number("FUEL", u32::MAX), Number("SPACE", RUN_SPACE)],
         b"collect" => &[],
         b"look" => &[Text("PATH")],
+        b"write" => &[Number("SPACE", WRITE_SPACE)],
         _ => return None,
     })
 }
@@ -234,6 +243,7 @@ impl<C: Calls, W: Write> Replay<'_, C, W> {
             (b"run", &[Number(fuel), Number(space)]) => self.run(call.begin, fuel, space),
             (b"collect", []) => self.collect(call.begin),
             (b"look", &[Text(path)]) => self.look(call.begin, path),
+            (b"write", &[Number(space)]) => self.write(call.begin, space),
             _ => unreachable!("a call with other arguments than its own"),
         }
     }
@@ -285,6 +295,18 @@ impl<C: Calls, W: Write> Replay<'_, C, W> {
             Ok(Found::Code) => self.out.write_all(b"look code\n"),
             Ok(Found::Frame) => self.out.write_all(b"look frame\n"),
             Err(refusal) => self.put_refused(begin, &String::from_utf8_lossy(path), refusal),
+        }
+    }
+
+    fn write(&mut self, begin: usize, space: u32) -> io::Result<()> {
+        let mut text = vec![0; space as usize];
+        match self.calls.write(&mut text) {
+            Ok(length) => {
+                write!(self.out, "write bytes {length} ")?;
+                self.out.write_all(&text[..length])?;
+                self.out.write_all(b"\n")
+            }
+            Err(refusal) => self.put_refused(begin, "write", refusal),
         }
     }
 

@@ -16,7 +16,7 @@ fn header() -> String {
 /// What a number of a refusal or an end says here.
 fn words(number: u32) -> Option<&'static str> {
     match number {
-        1..=12 | 20..=22 => Some(Refusal(number).message()),
+        1..=12 | 20..=23 => Some(Refusal(number).message()),
         _ => End::from_number(number).map(End::message),
     }
 }
@@ -105,6 +105,7 @@ fn the_header_has_version_and_sizes() {
         ("FRAMED_LITERAL_BYTES", framed::LITERAL_BYTES),
         ("FRAMED_TEXT_BYTES", framed::TEXT_BYTES),
         ("FRAMED_SOURCE_BYTES", framed::SOURCE_BYTES),
+        ("FRAMED_TEXT_BUFFER", framed::TEXT_BUFFER),
     ] {
         assert_eq!(define(&header, name), size.to_string(), "{name}");
     }
@@ -185,11 +186,14 @@ mod examples {
 
     /// A C example, compiled as C and as C++ by the compilers that are there.
     fn programs(name: &str) -> Vec<PathBuf> {
-        let file = top().join("examples").join(format!("{name}.c"));
+        compiled(name, &top().join("examples").join(format!("{name}.c")))
+    }
+
+    fn compiled(name: &str, file: &Path) -> Vec<PathBuf> {
         let mut programs = Vec::new();
         for (compiler, language) in [("cc", &C[..]), ("c++", &CXX[..])] {
             let program = folder().join(format!("{name}-{compiler}"));
-            if compiles(compiler, language, &file, &program, Some(&library())) {
+            if compiles(compiler, language, file, &program, Some(&library())) {
                 programs.push(program);
             }
         }
@@ -299,6 +303,68 @@ mod examples {
             expect(&program, &[], 2, "", "usage: embed MODEL [PATH..]\n");
             let output = run(&program, &["examples/absent.framed"]);
             assert_eq!((output.status.code(), output.stdout.len()), (Some(1), 0));
+        }
+    }
+
+    #[test]
+    fn tidy() {
+        let code = "self.a_name_of_16_byt:=self.a_name_of_16_byt;".repeat(360);
+        let long = stored("long_text.framed", &format!("frame:[Main:=frame:[start:=code{{{code}}}]]"));
+        let no_frame = stored("no_tidy_frame.framed", "code {}");
+        for program in programs("tidy") {
+            for (name, steps) in [("hello", 1), ("call", 9), ("drive", 500)] {
+                let file = format!("examples/{name}.framed");
+                let source = fs::read(top().join(&file)).unwrap();
+                let model = framed::machine::Model::load(&source, 256, 256).unwrap();
+                let written = text(&model.text().unwrap()) + "\n";
+                let said = format!("written after {steps} steps; loaded again, the text is the same model\n");
+                expect(&program, &[&file], 0, &written, &said);
+            }
+            let output = run(&program, &[&long]);
+            assert_eq!((output.status.code(), output.stdout.len()), (Some(3), 17_689 + 1));
+            let said = "the text, 17689 bytes: refused 3: the source is longer than 16,384 bytes\n";
+            assert_eq!(text(&output.stderr), said);
+            let said = format!("{no_frame}: refused 6: the tokens are not one frame\n");
+            expect(&program, &[&no_frame], 1, "", &said);
+            expect(&program, &[], 2, "", "usage: tidy MODEL\n");
+        }
+    }
+
+    /// A refused write changes nothing, the length included; what lies behind a text stays.
+    #[test]
+    fn write() {
+        let file = folder().join("write.c");
+        let source = r#"
+            #include "framed.h"
+            #include <stdio.h>
+            static struct framed_memories m;
+            static char out[60];
+            static void try_write(size_t space) {
+                size_t length = 7;
+                for (size_t i = 0; i < sizeof out; i++)
+                    out[i] = '~';
+                uint32_t answer = framed_memories_write(&m, out, space, &length);
+                printf("%u %lu %.60s\n", (unsigned)answer, (unsigned long)length, out);
+            }
+            int main(void) {
+                static const char source[] = "frame: [ Main := frame: [ start := code { show 1; } ] ]";
+                try_write(60);
+                if (framed_memories_load(&m, source, sizeof source - 1, 3, 0))
+                    return 1;
+                try_write(0);
+                try_write(57);
+                try_write(58);
+                m.heap[5] = 38;
+                try_write(60);
+                return 0;
+            }
+        "#;
+        fs::write(&file, source).unwrap();
+        let stays = "~".repeat(60);
+        let text = "frame : [ Main := frame : [ start := code { show 1 ; } ] ]";
+        let printed = format!("20 7 {stays}\n23 7 {stays}\n23 7 {stays}\n0 58 {text}~~\n20 7 {stays}\n");
+        for program in compiled("write", &file) {
+            expect(&program, &[], 0, &printed, "");
         }
     }
 

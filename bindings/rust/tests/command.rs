@@ -497,6 +497,64 @@ fn trace_ends() {
     assert_eq!(err, framed_input("run -", "frame").2);
 }
 
+// ---- write
+
+/// A model with comments, zeros, commas and roundabout paths; its text, and a line end.
+#[test]
+fn write_tidies() {
+    let name = file(
+        "untidy.framed",
+        "frame:[\n  Main:=frame:[ // the start\n\tstart:=code{self.n:=007;jump ^.^.Main.next self;},\n  \
+         next:=code{self.t:=\"n=\"#self.n;show self.t;},],\n]\n",
+    );
+    let tidy = "frame : [ Main := frame : [ start := code { self.n := 7 ; jump ^.next self ; } , \
+                next := code { self.t := \"n=\" # self.n ; show self.t ; } ] ]\n";
+    is(framed(&format!("write {name}")), 0, tidy, "");
+    is(framed_input("write -", tidy), 0, tidy, "");
+    is(framed_input("run -", tidy), 0, "n=7\nend 0 steps 4 frames 3 texts 1\n", "");
+}
+
+/// The text of a model runs as the model does, and is its own text.
+#[test]
+fn write_examples() {
+    for name in ["branch", "call", "drive", "drive_repaired", "exception", "hello"] {
+        let (status, text, err) = framed_top(&format!("write examples/{name}.framed"));
+        assert_eq!((status, text.lines().count(), err.as_str()), (0, 1, ""), "{name}");
+        is(framed_input("write -", &text), 0, &text, "");
+        let stored = fs::read_to_string(top().join(format!("examples/{name}.out"))).unwrap();
+        is(framed_input("run -", &text), 0, &stored, "");
+    }
+}
+
+/// A model that does not load is told as `check` tells it.
+#[test]
+fn write_refused() {
+    let (data, names) = index("framecorpus");
+    let mut refused = 0;
+    for name in names {
+        let at = |arguments: &str| answer(command(&data, &format!("{arguments} {name}")).output().unwrap());
+        let (check, write) = (at("check"), at("write"));
+        assert_eq!((write.0, &write.2), (check.0, &check.2), "{name}");
+        if check.0 == 2 {
+            refused += 1;
+            assert_eq!(write.1, "", "{name}");
+        } else {
+            assert!(write.1.starts_with("frame : [ ") && write.1.ends_with(" ]\n"), "{name}: {}", write.1);
+        }
+    }
+    assert!(refused > 0);
+}
+
+/// A text that is longer than a source: printed all the same, and told.
+#[test]
+fn write_long() {
+    let name = file("long_text.framed", start(&"self.a_name_of_16_byt:=self.a_name_of_16_byt;".repeat(360)));
+    let (status, out, err) = framed(&format!("write {name}"));
+    assert_eq!((status, out.len()), (0, 17_689 + 1));
+    assert_eq!(err, format!("{name}: the text has 17689 bytes; with more than 16384 it does not load\n"));
+    assert_eq!(framed_input("check -", &out).0, 2);
+}
+
 // ---- replay
 
 #[test]
@@ -516,6 +574,8 @@ fn replay_statuses() {
         (1, "run 1 0 run 9 9", "run fuel steps 1 bytes 0\n7\nrun 31 steps 1 bytes 2\n", &end),
         (2, "run 9 9 look \"self.x\"", "7\nrun 31 steps 2 bytes 2\nrefused 22\n", &format!("{end}{}", nowhere(9))),
         (4, "look \"self.x\" 5", "refused 22\n? 5\n", &format!("{}{unfit}", nowhere(1))),
+        (2, "write 9", "refused 23\n", "-:2:1: write: refused 23: the buffer is shorter than the text: a SPACE of 32767 is enough for every model\n"),
+        (4, "write 32769", "? 32769\n", "-:2:7: expected SPACE, an integer from 0 to 32768; the call `write` is not made\n"),
         (4, "run 1 4097", "? 4097\n", "-:2:7: expected SPACE, an integer from 0 to 4096; the call `run` is not made\n"),
         (4, "look self", "? self\n", "-:2:6: expected PATH, a string; the call `look` is not made\n"),
         (4, "load \"a\" 3 run", "? run\n", "-:2:12: expected T, an integer; the call `load` is not made\n"),
@@ -573,6 +633,9 @@ fn wrong_usage() {
         ("replay", "framed replay: no SCRIPT is given"),
         ("run a b", "framed run: one MODEL at a time, without `b`"),
         ("trace a b", "framed trace: one MODEL at a time, without `b`"),
+        ("write", "framed write: no MODEL is given"),
+        ("write a b", "framed write: one MODEL at a time, without `b`"),
+        ("write a --frames 3", "framed write: no option `--frames`"),
         ("run a --speed 3", "framed run: no option `--speed`"),
         ("run -x", "framed run: no option `-x`"),
         ("check a --fuel 3", "framed check: no option `--fuel`"),
@@ -595,7 +658,7 @@ fn wrong_usage() {
 
 #[test]
 fn help() {
-    for command in ["run", "check", "trace", "replay"] {
+    for command in ["run", "check", "trace", "write", "replay"] {
         let (status, out, err) = framed(&format!("{command} --help"));
         assert_eq!((status, err.as_str()), (0, ""));
         for words in [&format!("usage: framed {command} "), "status: ", "examples: "] {
@@ -604,7 +667,13 @@ fn help() {
     }
     let (status, out, err) = framed("--help");
     assert_eq!((status, err.as_str()), (0, ""));
-    let usages = ["framed run MODEL", "framed check MODEL", "framed trace MODEL", "framed replay SCRIPT"];
+    let usages = [
+        "framed run MODEL",
+        "framed check MODEL",
+        "framed trace MODEL",
+        "framed write MODEL",
+        "framed replay SCRIPT",
+    ];
     let options = ["\n  --frames F", "\n  --texts T", "\n  --fuel N", "\n  --look PATH", "status: ", "examples: "];
     for words in usages.into_iter().chain(options) {
         assert!(out.contains(words), "{words}");
@@ -619,7 +688,7 @@ fn help() {
 
 #[test]
 fn no_file() {
-    for command in ["run", "check", "trace", "replay"] {
+    for command in ["run", "check", "trace", "write", "replay"] {
         let said = "absent: No such file or directory\n";
         is(framed(&format!("{command} absent")), 4, "", said);
         is(framed(&format!("{command} .")), 4, "", ".: Is a directory\n");
@@ -627,7 +696,7 @@ fn no_file() {
 }
 
 /// What writes a lot or little, for each command.
-fn writers() -> [&'static str; 6] {
+fn writers() -> [&'static str; 7] {
     // tests run side by side
     static WRITTEN: Once = Once::new();
     WRITTEN.call_once(|| {
@@ -638,6 +707,7 @@ fn writers() -> [&'static str; 6] {
         "run writes.framed",
         "check writes.framed",
         "trace writes.framed",
+        "write writes.framed",
         "replay writes.script",
         "--help",
         "--version",

@@ -78,12 +78,33 @@ impl Pair {
         );
     }
 
+    fn write(&self, space: usize) -> Result<usize, Refusal> {
+        let (a, b) = (&self.plain, &self.proved);
+        let mut text = vec![0xa5; space];
+        let mut proved_text = text.clone();
+        let plain = plain::write(&a.program, &a.heap, &a.literals, &a.texts, &mut text);
+        let proved = machine::write(&b.program, &b.heap, &b.literals, &b.texts, &mut proved_text);
+        assert_eq!(plain, proved, "write {space}");
+        assert!(text == proved_text, "write {space}");
+        plain
+    }
+
+    /// A buffer of some length; then one of the text's, and one that is a byte shorter.
+    fn writes(&self, random: &mut Random) {
+        let space = random.pick(&[0, 10, 11, 60, 1_000, 4_096, 16_384, 32_767, 40_000]);
+        let _ = self.write(random.below(4_000));
+        if let Ok(length) = self.write(space) {
+            assert_eq!((self.write(length), self.write(length - 1)), (Ok(length), Err(Refusal(23))));
+        }
+    }
+
     /// A list of calls.
     fn calls(&mut self, count: usize, random: &mut Random) {
         for _ in 0..count {
-            match random.below(6) {
+            match random.below(7) {
                 0 => self.collect(),
                 1 => self.look(&path_text(random)),
+                2 => self.writes(random),
                 _ => {
                     let fuel = random.pick(&[0, 1, 2, 7, 40, 300, 5_000]);
                     let space = random.pick(&[0, 1, 4, 20, 66, 500]);
@@ -114,6 +135,7 @@ fn stored() {
         let _ = pair.run(100_000, 4_096);
         pair.collect();
         pair.look(b"self");
+        pair.writes(&mut random);
         let (frames, texts) = limits(&mut random);
         let _ = pair.load(&source, frames, texts);
         pair.calls(4, &mut random);
@@ -162,6 +184,7 @@ fn damaged_memories() {
         for _ in 0..8 {
             pair = Pair::new(sound.clone());
             pair.damage(&mut random);
+            pair.writes(&mut random);
             pair.calls(2, &mut random);
         }
     }
@@ -180,5 +203,6 @@ fn memories_of_other_lengths() {
         assert_eq!(pair.run(10, 10), Err(Refusal(20)));
         pair.collect();
         pair.look(b"self");
+        assert_eq!(pair.write(random.pick(&[0, 4_096])), Err(Refusal(20)));
     }
 }

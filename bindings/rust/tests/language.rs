@@ -1,12 +1,13 @@
 //! The examples of docs/LANGUAGE.md print what stands beside them, over the plain implementation and over the machine.
 //!
 //! An example is a fenced block `framed` with a whole source and, after it, a fenced block `output` with what is printed:
-//! the lines of `framerun`, then one line for each look, as `replay` prints it. A block `script` in its place is a script of
+//! the lines of `framerun`, then one line for each look and each write, as `replay` prints it. A block `script` in its place is a script of
 //! `replay` that loads nothing. Blocks `rust` are the crate's tests of documentation. Comments in the source, which are
 //! comments to the machine too, say what differs from a `framerun`:
 //!
 //! - `// with F 3, T 0, fuel 10, space 4`, as a line of its own, sets limits (else 256, 256, 100000 and 4096);
 //! - `// look PATH`, as a line of its own, looks along the path after the run and the collect;
+//! - `// write SPACE`, as a line of its own, writes the program then, into a buffer of so many bytes;
 //! - a line that ends with `// N times` stands N times in the source, each time with its comment.
 use framed::replay::{replay, Calls, Plain};
 use framed::{plain, Refusal};
@@ -22,7 +23,8 @@ struct Example {
     texts: u32,
     fuel: u32,
     space: usize,
-    looks: Vec<String>,
+    /// The looks and writes after it, as a script has them.
+    calls: Vec<String>,
     expected: String,
 }
 
@@ -36,14 +38,16 @@ impl Example {
             texts: 256,
             fuel: 100_000,
             space: 4_096,
-            looks: Vec::new(),
+            calls: Vec::new(),
             expected,
         };
         for line in block.lines() {
             if let Some(settings) = line.strip_prefix("// with ") {
                 settings.split(", ").for_each(|setting| example.set(setting));
             } else if let Some(path) = line.strip_prefix("// look ") {
-                example.looks.push(path.to_owned());
+                example.calls.push(format!("look \"{path}\" "));
+            } else if let Some(space) = line.strip_prefix("// write ") {
+                example.calls.push(format!("write {space} "));
             }
             for _ in 0..times(line) {
                 example.source.push_str(line);
@@ -68,7 +72,7 @@ impl Example {
     /// Whether `framerun` makes just the calls of this example.
     fn is_framerun(&self) -> bool {
         let limits = (self.frames, self.texts, self.fuel, self.space);
-        limits == (256, 256, 100_000, 4_096) && self.looks.is_empty() && !self.is_script
+        limits == (256, 256, 100_000, 4_096) && self.calls.is_empty() && !self.is_script
     }
 }
 
@@ -139,9 +143,8 @@ fn printed(example: &Example, calls: &mut impl Calls) -> String {
         "end {} steps {} frames {} texts {}\n",
         report.stop, report.steps, totals.frames, totals.texts
     ));
-    let looks: String = example.looks.iter().map(|path| format!("look \"{path}\" ")).collect();
     let mut out = Vec::new();
-    replay(looks.as_bytes(), Path::new(""), calls, &mut out).unwrap();
+    replay(example.calls.concat().as_bytes(), Path::new(""), calls, &mut out).unwrap();
     printed + std::str::from_utf8(&out).unwrap()
 }
 
@@ -191,7 +194,7 @@ fn every_number_is_shown() {
             }
         }
     }
-    let numbers = [0].into_iter().chain(2..=12).chain(20..=22).chain(31..=37).map(|number: u32| number.to_string());
+    let numbers = [0].into_iter().chain(2..=12).chain(20..=23).chain(31..=37).map(|number: u32| number.to_string());
     for stop in numbers.chain(["fuel".to_owned(), "output".to_owned()]) {
         assert!(shown.contains(&stop), "docs/LANGUAGE.md has no example of {stop}");
     }

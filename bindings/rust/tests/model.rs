@@ -45,6 +45,25 @@ fn memories_out_and_back() -> Result<(), Box<dyn Error>> {
     Ok(())
 }
 
+/// The text of a model loads as the same model, whatever was run before it was written.
+#[test]
+fn text_and_back() -> Result<(), Box<dyn Error>> {
+    let mut model = Model::load(COUNTING.as_bytes(), 10, 4)?;
+    let start = model.clone();
+    model.run(7, &mut [0; 100]);
+    let text = model.text()?;
+    assert_eq!(text, start.text()?);
+    assert!(text.starts_with(b"frame : [ Main := frame : [ start := code { self.n := 3 ; "));
+    assert!(Model::load(&text, 10, 4)? == start);
+    let mut out = vec![7; text.len() + 1];
+    assert_eq!(model.write(&mut out), Ok(text.len()));
+    assert_eq!(out, [&text[..], &[7]].concat());
+    out.fill(9);
+    assert_eq!(model.write(&mut out[..text.len() - 1]), Err(Refusal(23)));
+    assert_eq!(out, [9].repeat(text.len() + 1));
+    Ok(())
+}
+
 /// Memories that are not whole come back as they were.
 #[test]
 fn memories_that_are_not_whole() {

@@ -100,9 +100,27 @@ fn calls() {
     prints("run -1 0 run 0 4097 run 0 -1", "refused 20\n? 4097\n? -1\n");
     prints("run run 1 0 run \"\" collect", "? run\n? 1\n? 0\n? \"\"\nrefused 20\n");
     prints("look self look : look 1 \"self\"", "? self\n? :\n? 1\n? \"self\"\n");
+    prints("write 0 write 32768 write 32769 write -1", "refused 20\nrefused 20\n? 32769\n? -1\n");
+    prints("write \"\" write write 1 collect write", "? \"\"\n? write\n? 1\nrefused 20\n? write\n");
     prints("load \"a\" \"b\" load \"a\" 1 load", "? \"b\"\n? load\n");
     prints("collect load \"a\" // F\n 1\n// T\n", "refused 20\n? load \"a\" // F\n 1\n");
     prints("load \"\" 3 0 collect", "? \n");
+}
+
+/// A write prints the text where the buffer has room for it, whatever was run; it has no byte 10.
+#[test]
+fn writes() {
+    let dir = Path::new(env!("CARGO_TARGET_TMPDIR"));
+    let source = "frame:[Main:=frame:[start:=code{// one\nself.n:=007;^.start:=5;show ^.^.Main.start;},],]";
+    fs::write(dir.join("writes.framed"), source).unwrap();
+    let written = "frame : [ Main := frame : [ start := code { self.n := 7 ; ^.start := 5 ; show ^.start ; } ] ]";
+    assert_eq!(written.len(), 93);
+    let script = b"load \"writes.framed\" 3 0 write 92 write 93 run 9 9 collect write 32768 write 0";
+    let printed = format!(
+        "loaded\nrefused 23\nwrite bytes 93 {written}\n5\nrun 0 steps 3 bytes 2\ncollect frames 3 texts 0\n\
+         write bytes 93 {written}\nrefused 23\n"
+    );
+    assert_eq!(text(&print(script, dir)), printed);
 }
 
 /// A script has at most 65,536 bytes.
@@ -154,6 +172,9 @@ fn long_file() {
             unreachable!()
         }
         fn look_text(&self, _: &[u8]) -> Vec<u8> {
+            unreachable!()
+        }
+        fn write(&self, _: &mut [u8]) -> Result<usize, Refusal> {
             unreachable!()
         }
     }

@@ -5,9 +5,9 @@
 
 mod common;
 
-use common::{damage, damaged_source, long_source, other_length, path_text, random_bytes, rounds};
+use common::{damage, damaged_source, deep, long_source, other_length, path_text, random_bytes, rounds};
 use common::{stored_sources, Random, Writer};
-use framed::{plain, Memories};
+use framed::{plain, Memories, TEXT_BUFFER};
 use std::arch::asm;
 use std::collections::BTreeMap;
 use std::path::Path;
@@ -19,11 +19,21 @@ extern "C" {
     fn framed_collect();
     fn framed_look();
     fn framed_look_text();
+    fn framed_write();
 }
 
-const WORDS: usize = 1 << 17;
+const WORDS: usize = 1 << 18;
 const PAINT: u64 = 0x48e2_7d1b_f096_c3a5;
-const RUN_ANY: &str = "run over any memories";
+
+/// The calls that take more over memories which load did not make.
+#[derive(Clone, Copy)]
+struct Names {
+    run: &'static str,
+    write: &'static str,
+}
+
+const LOADED: Names = Names { run: "run", write: "write" };
+const ANY: Names = Names { run: "run over any memories", write: "write over any memories" };
 
 struct Stack {
     /// All painted, but during a call.
@@ -69,8 +79,8 @@ impl Stack {
         self.call("load", framed_load, &[&source[..], &lent(m)].concat()) == 0
     }
 
-    /// The other calls. `run` is the name that the run counts under.
-    fn go_on(&mut self, run: &'static str, m: &mut Memories, random: &mut Random) {
+    /// The other calls. Run and write count under these names.
+    fn go_on(&mut self, names: Names, m: &mut Memories, random: &mut Random) {
         let (mut first, mut second) = ([0u64], [0u64]);
         let (first, second) = (part(&mut first)[0], part(&mut second)[0]);
         let mut out = vec![0u8; random.pick(&[0, 65, 4_096])];
@@ -78,17 +88,19 @@ impl Stack {
         let mut path = path_text(random);
         let path = part(&mut path);
         let fuel = random.pick(&[1, 7, 200, 3_000]);
-        self.call(run, framed_run, &[&lent(m)[..], &[fuel], &out, &[first, second]].concat());
+        self.call(names.run, framed_run, &[&lent(m)[..], &[fuel], &out, &[first, second]].concat());
         self.call("collect", framed_collect, &[&lent(m)[..], &[first, second]].concat());
         self.call("look", framed_look, &[&lent(m)[..], &path, &[first]].concat());
         self.call("look_text", framed_look_text, &[&lent(m)[..], &path, &out].concat());
+        let mut text = vec![0u8; TEXT_BUFFER];
+        self.call(names.write, framed_write, &[&lent(m)[..], &part(&mut text), &[first]].concat());
     }
 
     fn source(&mut self, source: &[u8], random: &mut Random) {
         let mut m = Memories::new();
         let (frames, texts) = (random.pick(&[256, 256, 40, 12, 3, 2]), random.pick(&[256, 8, 0]));
         if self.load(&mut m, source, frames, texts) {
-            (0..3).for_each(|_| self.go_on("run", &mut m, random));
+            (0..3).for_each(|_| self.go_on(LOADED, &mut m, random));
         }
     }
 
@@ -96,11 +108,11 @@ impl Stack {
     fn damaged(&mut self, source: &[u8], random: &mut Random) {
         let mut m = Memories::new();
         assert!(self.load(&mut m, source, 256, 256));
-        self.go_on("run", &mut m, random);
+        self.go_on(LOADED, &mut m, random);
         damage(&mut m, random);
         let mut other = other_length(&m, random);
-        self.go_on(RUN_ANY, &mut m, random);
-        self.go_on(RUN_ANY, &mut other, random);
+        self.go_on(ANY, &mut m, random);
+        self.go_on(ANY, &mut other, random);
         assert!(!self.load(&mut other, source, 256, 256));
     }
 }
@@ -170,7 +182,11 @@ fn measured() -> Stack {
         stack.damaged(&source, random);
     }
     for levels in [1, 16, 255, 256, 257, 1_020] {
-        stack.go_on(RUN_ANY, &mut chain(levels), random);
+        stack.go_on(ANY, &mut chain(levels), random);
+    }
+    // outside code, in one code, and in as many codes as there can be
+    for (outside, codes, inside) in [(1_020, 1, 0), (0, 1, 1_020), (893, 128, 0), (125, 128, 6)] {
+        stack.go_on(ANY, &mut deep(outside, codes, inside), random);
     }
     stack
 }
@@ -221,10 +237,13 @@ fn figures() {
     taken.iter().for_each(|(name, (least, most))| println!("{name}: at least {least}, at most {most} bytes"));
     println!("load, a level of code: {level} bytes");
     for (name, &(_, most)) in &taken {
-        let figure = if *name == RUN_ANY { header("run")[1] } else { header(name)[0] };
+        let figure = match name.strip_suffix(" over any memories") {
+            Some(call) => header(call)[1],
+            None => header(name)[0],
+        };
         assert!(most <= figure && figure < most + 1_024, "{name} takes {most} bytes, the header says {figure}");
     }
-    for call in ["run", "collect", "look", "look_text"] {
+    for call in ["run", "collect", "look", "look_text", "write"] {
         assert_eq!(readme(call), header(call), "README, {call}");
     }
     assert_eq!(readme("load"), [header("load")[0], whole_words(taken["load"].0), level], "README, load");

@@ -1,12 +1,13 @@
--- Document 01's numbers of answers, for programs and for C. What the document numbers keeps its number, that of `framed`'s Answers. What it has a word for gets one
--- here: 'fuel' is 1 and 'output' 2; a collect that is not refused is 0; the kinds that look gives are 1 to 4, in the document's order. Load's numbers are `framed`'s
--- `load-number`. Assumes nothing.
+-- Document 01's and 02's numbers of answers, for programs and for C. What the document numbers keeps its number, that of `framed`'s Answers. What it has a word for gets one
+-- here: 'fuel' is 1 and 'output' 2; a collect or a write that is not refused is 0; the kinds that look gives are 1 to 4, in the document's order. Load's numbers are
+-- `framed`'s `load-number`. Assumes nothing.
 use mathlib.Core.List.{[]}
 use Prim.Native.Nat.{ℕ}
 use Rattle.framed.specs.declared.CollectAnswer.{CollectAnswer}
 use Rattle.framed.specs.declared.LookAnswer.{LookAnswer}
 use Rattle.framed.specs.declared.RunAnswer.{RunAnswer}
-use Rattle.framed.specs.Answers.{Stopped, Report, run-report, collect-report, Look, look-word}
+use Rattle.framed.specs.declared.WriteAnswer.{WriteAnswer}
+use Rattle.framed.specs.Answers.{Stopped, Report, run-report, collect-report, Look, look-word, Wrote, write-word}
 
 abbrev pub stopped-number : Stopped → ℕ
 stopped-number (Stopped.end e) = e
@@ -35,3 +36,10 @@ kind-number (Look.refused n) = n
 
 abbrev pub look-number : LookAnswer → ℕ
 look-number a = kind-number (look-word a)
+
+abbrev pub wrote-number : Wrote → ℕ
+wrote-number (Wrote.wrote n) = 0
+wrote-number (Wrote.refused n) = n
+
+abbrev pub write-number : WriteAnswer → ℕ
+write-number a = wrote-number (write-word a)

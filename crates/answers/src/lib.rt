@@ -4,9 +4,10 @@ use framed::LoadAnswer;
 use framed::LookAnswer;
 use framed::RunAnswer;
 use framed::Stop;
+use framed::WriteAnswer;
 ghost use mathlib.Core.Path.{_≡_};
 ghost use Rattle.framed.specs.Answers.{load-number, stop-word};
-ghost use Rattle.answers.specs.Numbers.{stopped-number, run-number, collect-number, look-number};
+ghost use Rattle.answers.specs.Numbers.{stopped-number, run-number, collect-number, look-number, write-number};
 
 pub fn load_number(a: LoadAnswer) -> u32
     ensures { λ r. ⌜ r ≡ load-number a ⌝ }
@@ -77,5 +78,15 @@ pub fn look_number(a: LookAnswer) -> u32
         LookAnswer::NotWellFormed => 20,
         LookAnswer::NotPath => 21,
         LookAnswer::Undefined => 22,
+    }
+}
+
+pub fn write_number(a: WriteAnswer) -> u32
+    ensures { λ r. ⌜ r ≡ write-number a ⌝ }
+{
+    match a {
+        WriteAnswer::Written(_n) => 0,
+        WriteAnswer::NotWellFormed => 20,
+        WriteAnswer::ShortBuffer => 23,
     }
 }

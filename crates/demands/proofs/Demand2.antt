@@ -7,23 +7,23 @@ use Rattle.framed.specs.Demands.{Demand2}
 use Rattle.framed.proofs.StepJudged.{step-judged}
 use Rattle.tables.specs.Fields.{frame-limit, text-limit}
 use Rattle.wellformed.specs.Held.{state-held}
-use Rattle.load.specs.Load.{load-call}
 use Rattle.load.proofs.Theorems.{load-exact, load-decodes, load-starts}
 use Rattle.look.proofs.Means.{look-is-fetch, look-text-is-fetch}
+use Rattle.write.proofs.Laws.{write-is-text}
 use Rattle.run.proofs.Means.{run-call-means}
 use Rattle.lent_machine.specs.Machine.{run-lent, collect-lent}
 use Rattle.lent_machine.proofs.Runs.{bounded-of}
 use Rattle.lent_machine.proofs.Collects.{collect-alike}
 use Rattle.lent_machine.proofs.Calls.{q, left-is}
 use Rattle.lent_machine.proofs.Second as second
-use Rattle.demands.specs.Machine.{look-lent, look-text-lent, machine}
+use Rattle.demands.specs.Machine.{look-lent, look-text-lent, write-lent, other-calls, machine}
 
 -- one equivalence after another
 both : {A B C : Type 0} → (A ↔ B) → (B ↔ C) → (A ↔ C)
 both x y = (λ a. y .0 (x .0 a), λ c. x .1 (y .1 c))
 
 pub demand-2 : Demand2 machine
-unfolding run-lent collect-lent look-lent look-text-lent
+unfolding run-lent collect-lent look-lent look-text-lent write-lent
 demand-2 = record {
   load-answers = λ m source F T. load-exact m source F T .number;
   loads = λ m source F T. load-exact m source F T .done;
@@ -34,7 +34,7 @@ demand-2 = record {
       let s = state-held (m .program) (m .heap) (m .text) in
       let made = step-judged .goes-on (q m w) (frame-limit (m .program)) (text-limit (m .program)) s i rest ready x .1 rule in
       let y = second.makes-step m w i rest ready buffer x made fits in
-      ((bounded-of m 1 buffer w .stop, y .0), subst (Alike (after-step s x)) (sym (left-is load-call look-lent look-text-lent m 1 buffer w)) (y .1));
+      ((bounded-of m 1 buffer w .stop, y .0), subst (Alike (after-step s x)) (sym (left-is other-calls m 1 buffer w)) (y .1));
   no-rule = λ m fuel buffer i rest w ready.
       both (second.ends-at-once m w i rest ready fuel 31 buffer)
       (step-judged .no-rule (q m w) (frame-limit (m .program)) (text-limit (m .program)) (state-held (m .program) (m .heap) (m .text)) i rest ready);
@@ -52,4 +52,5 @@ demand-2 = record {
   looks-text = λ m path w. look-text-is-fetch (m .program) (m .heap) (m .literal) (m .text) path .looked w;
   looks-fetch = λ m path x l w e. look-is-fetch (m .program) (m .heap) (m .literal) (m .text) path .fetched w x l e;
   looks-text-fetch = λ m path x bs w e. look-text-is-fetch (m .program) (m .heap) (m .literal) (m .text) path .fetched w x bs e;
+  writes = λ m buffer w. write-is-text (m .program) (m .heap) (m .literal) (m .text) buffer .written w;
 }

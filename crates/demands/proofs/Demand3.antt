@@ -10,7 +10,7 @@ use Rattle.load.specs.Load.{load-call}
 use Rattle.load.proofs.Laws.{call-loads, holds-start}
 use Rattle.lent_machine.specs.Machine.{Started}
 use Rattle.lent_machine.proofs.Calls.{started-calls}
-use Rattle.demands.specs.Machine.{look-lent, look-text-lent, machine}
+use Rattle.demands.specs.Machine.{other-calls, machine}
 
 -- the memories as an accepted load leaves them
 started : (m : Memories) (source : List ℕ) (F T : ℕ) (p : Program) → refusal (lengths m) source F T ≡ 0 → program source ≡ some p → Started p F T (load-call m source F T .memories)
@@ -20,4 +20,4 @@ started m source F T p z e =
     (record { well-formed = h .well-formed; program-is = h .program-is; F-is = h .F-is; T-is = h .T-is; unmarked = h .unmarked; alike = h .at-start })
 
 pub demand-3 : Demand3 machine
-demand-3 = record { alike = λ m source F T p cs z e. started-calls load-call look-lent look-text-lent p F T (load-call m source F T .memories) (started m source F T p z e) cs }
+demand-3 = record { alike = λ m source F T p cs z e. started-calls other-calls p F T (load-call m source F T .memories) (started m source F T p z e) cs }

@@ -1,12 +1,13 @@
--- The machine that the demands are proved of: the four public calls, each as the very definition that its contract cites, over this layout. The demands are
+-- The machine that the demands are proved of: the public calls, each as the very definition that its contract cites, over this layout. The demands are
 -- `framed`'s: crate framed, specs/Demands. Assumes nothing.
 use Prim.Native.Nat.{ℕ}
 use mathlib.Core.List.{List}
 use Rattle.framed.specs.declared.LookAnswer.{LookAnswer}
-use Rattle.framed.specs.Demands.{Memories, LentMachine}
+use Rattle.framed.specs.Demands.{Memories, Writing, LentMachine}
 use Rattle.load.specs.Load.{load-call}
 use Rattle.look.specs.Look.{look-call, look-bytes}
-use Rattle.lent_machine.specs.Machine.{machine-with}
+use Rattle.write.specs.Write.{write-call}
+use Rattle.lent_machine.specs.Machine.{OtherCalls, machine-with}
 
 unfoldable pub look-lent : Memories → List ℕ → LookAnswer
 look-lent m path = look-call (m .program) (m .heap) (m .literal) (m .text) path
@@ -15,5 +16,12 @@ look-lent m path = look-call (m .program) (m .heap) (m .literal) (m .text) path
 unfoldable pub look-text-lent : Memories → List ℕ → List ℕ
 look-text-lent m path = look-bytes (m .program) (m .heap) (m .literal) (m .text) path
 
+unfoldable pub write-lent : Memories → List ℕ → Writing
+write-lent m buffer = write-call (m .program) (m .heap) (m .literal) (m .text) buffer
+
+-- besides run and collect
+abbrev pub other-calls : OtherCalls
+other-calls = record { load = load-call; look = look-lent; look-text = look-text-lent; write = write-lent }
+
 abbrev pub machine : LentMachine
-machine = machine-with load-call look-lent look-text-lent
+machine = machine-with other-calls

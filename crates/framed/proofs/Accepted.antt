@@ -134,7 +134,7 @@ code-same _ _ (Same.resolved {e = Expression.not b} place inner) = refl
 code-same _ _ (Same.resolved {e = Expression.operation o a b} place inner) = refl
 code-same _ _ (Same.resolved {e = Expression.frame ss} place inner) = refl
 
-start-resolved : (names : List (List ℕ)) (ss : Slots Written) (place : Place) → main-start names (resolve-slots place ss) ≡ main-start names ss
+pub start-resolved : (names : List (List ℕ)) (ss : Slots Written) (place : Place) → main-start names (resolve-slots place ss) ≡ main-start names ss
 unfolding main-start
 start-resolved names ss place = code-same _ _ (frame-same (number-in names (bytes "start")) _ _ (slot-same (number-in names (bytes "Main")) ss place))
 

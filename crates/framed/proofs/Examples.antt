@@ -1,6 +1,6 @@
--- Document 01's proved examples and its printed run, by computation. Assumes nothing.
+-- Document 01's proved examples and its printed run, and document 02's texts, by computation. Assumes nothing.
 use mathlib.Core.Path.{refl}
-use Rattle.framed.specs.Examples.{ProvedExamples, PrintedRun, Examples}
+use Rattle.framed.specs.Examples.{ProvedExamples, PrintedRun, WrittenExamples, Examples}
 
 pub proved-examples : ProvedExamples
 unfolding ProvedExamples Examples
@@ -9,3 +9,7 @@ proved-examples = (refl, refl, refl, refl, refl, refl, refl, refl, refl, refl, r
 pub printed-run : PrintedRun
 unfolding PrintedRun Examples
 printed-run = refl
+
+pub written-examples : WrittenExamples
+unfolding WrittenExamples Examples
+written-examples = (refl, refl, refl)

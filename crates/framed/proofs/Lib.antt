@@ -16,4 +16,5 @@ pub mod StepJudged
 pub mod Runs
 pub mod RunJudged
 pub mod ProgramJudged
+pub mod PathWritten
 pub mod Examples

@@ -1,4 +1,4 @@
--- Document 01: what the calls answer, in the document's numbers and words, and the number or word of each case of the crate's answer enums.
+-- Documents 01 and 02: what the calls answer, in the document's numbers and words, and the number or word of each case of the crate's answer enums.
 -- Promises about an answer go through these definitions. Assumes nothing.
 use mathlib.Core.List.{List}
 use Prim.Native.Nat.{ℕ}
@@ -9,6 +9,7 @@ use Rattle.framed.specs.declared.Stop.{Stop}
 use Rattle.framed.specs.declared.RunAnswer.{RunAnswer}
 use Rattle.framed.specs.declared.CollectAnswer.{CollectAnswer}
 use Rattle.framed.specs.declared.LookAnswer.{LookAnswer}
+use Rattle.framed.specs.declared.WriteAnswer.{WriteAnswer}
 
 -- load: 0 is loaded, 1 to 12 are the table's
 abbrev pub load-number : LoadAnswer → ℕ
@@ -72,3 +73,13 @@ look-word LookAnswer.Frame = Look.frame
 look-word LookAnswer.NotWellFormed = Look.refused 20
 look-word LookAnswer.NotPath = Look.refused 21
 look-word LookAnswer.Undefined = Look.refused 22
+
+-- document 02, A1, write: the length of the text, or the number of a refusal
+pub data Wrote : Type 0 where
+  wrote : ℕ → Wrote
+  refused : ℕ → Wrote
+
+abbrev pub write-word : WriteAnswer → Wrote
+write-word (WriteAnswer.Written n) = wrote n
+write-word WriteAnswer.NotWellFormed = Wrote.refused 20
+write-word WriteAnswer.ShortBuffer = Wrote.refused 23

@@ -1,10 +1,10 @@
--- Document 01, "The calls" and the last paragraph of "The endless machine", on the unbounded machine: run, collect and look; and the list
--- of calls that demand 3 speaks of. Assumes nothing.
+-- Document 01, "The calls" and the last paragraph of "The endless machine", on the unbounded machine: run, collect and look; document 02, A1: write;
+-- and the list of calls that demand 3 speaks of. Assumes nothing.
 use mathlib.Core.Bool.{Bool, true, false}
 use mathlib.Core.List.{List, [], _∷_, _++_}
 use mathlib.Core.Option.{Option, none, some}
 use Prim.Native.Nat.{ℕ, zero, suc, _-_}
-use lib.ListN.{length}
+use lib.ListN.{length, drop}
 use lib.Dec.{leb}
 use Rattle.framed.specs.declared.Value.{Value}
 use Rattle.framed.specs.Bytes.{class}
@@ -19,7 +19,8 @@ use Rattle.framed.specs.Fetch.{fetch}
 use Rattle.framed.specs.Reach.{roots, reached-frames, reached-texts}
 use Rattle.framed.specs.Machine.{State, Effect, gives, ends, step, after-step, marked, start}
 use Rattle.framed.specs.Judgments.{Fetch⇒}
-use Rattle.framed.specs.Answers.{Stopped, Report, Look}
+use Rattle.framed.specs.Writer.{text}
+use Rattle.framed.specs.Answers.{Stopped, Report, Look, Wrote}
 
 -- ---- The unbounded machine between two calls (document 01: the endless machine)
 
@@ -171,6 +172,17 @@ pub data LooksTextAs (p : Program) (s : State) (w : Written) : List ℕ → Type
   text-found : {v : Value} → LookFinds s w v → LooksTextAs p s w (text-in p s v)
   text-undefined : ((v : Value) → ¬ LookFinds s w v) → LooksTextAs p s w []
 
+-- ---- Write (document 02, A1)
+
+-- 23 where the buffer has less space than the text is long
+unfoldable pub write : Program → (space : ℕ) → Wrote
+write p space = elim (leb (length (text p)) space) [ true ↦ Wrote.wrote (length (text p)) | false ↦ Wrote.refused 23 ]
+
+-- what the buffer holds then: the text, and behind it the bytes that were there; where it is refused, those alone
+unfoldable pub buffer-after : Program → List ℕ → List ℕ
+buffer-after p buffer =
+    elim (leb (length (text p)) (length buffer)) [ true ↦ text p ++ drop (length (text p)) buffer | false ↦ buffer ]
+
 -- ---- The list of calls after an accepted load
 
 pub data Call : Type 0 where
@@ -193,5 +205,5 @@ calls p F T (collect-call ∷ cs) u =
     first-report (Report.collected (frame-total (u .state)) (text-total (u .state))) (calls p F T cs u)
 
 unfoldable pub Calls : Type 0
-unfolding at-start advanced ended attempted position-in position one-more run frame-total text-total look-path read-path look-from kind look text-in look-text look-root look-names first-report calls
+unfolding at-start advanced ended attempted position-in position one-more run frame-total text-total look-path read-path look-from kind look text-in look-text look-root look-names write buffer-after first-report calls
 Calls = ℕ

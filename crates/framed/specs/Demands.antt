@@ -1,4 +1,4 @@
--- The three demands as statements about a machine over lent memories, whatever its layout.
+-- The three demands, and document 02's promise on a written text (A1), as statements about a machine over lent memories, whatever its layout.
 -- `LentMachine` is what a machine's definitions provide: each call as a function of everything lent, and what the memories hold.
 -- The statements are proved where the layout is defined; here they are only stated. Assumes nothing.
 use mathlib.Core.Path.{_≡_}
@@ -7,7 +7,7 @@ use mathlib.Core.Bool.{true}
 use mathlib.Core.List.{List, [], _∷_, _++_, List·Memᴰ}
 use mathlib.Core.Option.{some}
 use Prim.Native.Nat.{ℕ, suc, _+_, _≤_, _<_}
-use lib.ListN.{length, drop}
+use lib.ListN.{length, take, drop}
 use Rattle.framed.specs.declared.Value.{Value}
 use Rattle.framed.specs.declared.Text.{Text}
 use Rattle.framed.specs.declared.LoadAnswer.{LoadAnswer}
@@ -15,17 +15,18 @@ use Rattle.framed.specs.declared.RunReport.{RunReport}
 use Rattle.framed.specs.declared.RunAnswer.{RunAnswer}
 use Rattle.framed.specs.declared.CollectAnswer.{CollectAnswer}
 use Rattle.framed.specs.declared.LookAnswer.{LookAnswer}
+use Rattle.framed.specs.declared.WriteAnswer.{WriteAnswer}
 use Rattle.framed.specs.Bytes.{class}
 use Rattle.framed.specs.Tokens.{tokens}
 use Rattle.framed.specs.Tree.{Written, Instruction, Code, _then_}
 use Rattle.framed.specs.Paths.{Path}
-use Rattle.framed.specs.Meaning.{Lengths, refusal}
+use Rattle.framed.specs.Meaning.{Lengths, refusal, right-lengths}
 use Rattle.framed.specs.Refusals.{Holds}
 use Rattle.framed.specs.Program.{Program, program}
 use Rattle.framed.specs.Machine.{State, Effect, ends, Ready, step, after-step, start, right-side, frame-literals}
 use Rattle.framed.specs.Judgments.{Rule, FirstMet}
-use Rattle.framed.specs.Answers.{load-number, Stopped, Report, run-report, collect-report, look-word, Look}
-use Rattle.framed.specs.Calls.{Unbounded, at-start, Call, run-call, collect-call, Session, calls, run, frame-total, text-total, read-path, look, look-text, LooksAs, LooksTextAs}
+use Rattle.framed.specs.Answers.{load-number, Stopped, Report, run-report, collect-report, look-word, Look, write-word}
+use Rattle.framed.specs.Calls.{Unbounded, at-start, Call, run-call, collect-call, Session, calls, run, frame-total, text-total, read-path, look, look-text, LooksAs, LooksTextAs, write, buffer-after}
 use Rattle.framed.specs.Alike.{Alike, InReach}
 
 -- the four memories
@@ -52,6 +53,11 @@ pub record Collecting : Type 0 where
   pub answer : CollectAnswer
   pub memories : Memories
 
+-- write only reads the memories
+pub record Writing : Type 0 where
+  pub answer : WriteAnswer
+  pub buffer : List ℕ
+
 pub record LentMachine : Type 1 where
   -- document 01: the memories are whole
   pub WellFormed : Memories → Type 0
@@ -60,6 +66,7 @@ pub record LentMachine : Type 1 where
   pub collect : Memories → Collecting
   pub look : Memories → (path : List ℕ) → LookAnswer
   pub look-text : Memories → (path : List ℕ) → List ℕ
+  pub write : Memories → (buffer : List ℕ) → Writing
   -- the layout: what well-formed memories hold
   pub program-in : Memories → Program
   pub F-in : Memories → ℕ
@@ -117,6 +124,10 @@ module _ (M : LentMachine) where
         M .run m fuel buffer ≡ record { answer = RunAnswer.NotWellFormed; buffer = buffer; memories = m }
     pub collect-refused : (m : Memories) → ¬ M .WellFormed m → M .collect m ≡ record { answer = CollectAnswer.NotWellFormed; memories = m }
     pub look-refused : (m : Memories) (path : List ℕ) → ¬ M .WellFormed m → (M .look m path ≡ LookAnswer.NotWellFormed) × (M .look-text m path ≡ [])
+    pub write-refused : (m : Memories) (buffer : List ℕ) → ¬ M .WellFormed m →
+        M .write m buffer ≡ record { answer = WriteAnswer.NotWellFormed; buffer = buffer }
+    -- a buffer that is too short stays as it was
+    pub write-short : (m : Memories) (buffer : List ℕ) → M .write m buffer .answer ≡ WriteAnswer.ShortBuffer → M .write m buffer .buffer ≡ buffer
     -- no other run or collect is refused
     pub run-answers : (m : Memories) (fuel : ℕ) (buffer : List ℕ) → M .WellFormed m → M .run m fuel buffer .answer ≢ RunAnswer.NotWellFormed
     pub collect-answers : (m : Memories) → M .WellFormed m → M .collect m .answer ≢ CollectAnswer.NotWellFormed
@@ -125,6 +136,8 @@ module _ (M : LentMachine) where
         (r .steps ≤ fuel) × (r .bytes ≤ length buffer)
     pub run-writes : (m : Memories) (fuel : ℕ) (buffer : List ℕ) (r : RunReport) → M .run m fuel buffer .answer ≡ RunAnswer.Stopped r →
         drop (r .bytes) (M .run m fuel buffer .buffer) ≡ drop (r .bytes) buffer
+    pub write-within : (m : Memories) (buffer : List ℕ) (n : ℕ) → M .write m buffer .answer ≡ WriteAnswer.Written n →
+        (n ≤ length buffer) × (length (M .write m buffer .buffer) ≡ length buffer) × (drop n (M .write m buffer .buffer) ≡ drop n buffer)
     -- a run that ends by number keeps its earlier shows: those of the run with just the fuel for the steps before that end
     pub run-keeps-shows : (m : Memories) (fuel : ℕ) (buffer : List ℕ) (e steps count : ℕ) (bytes : List ℕ) →
         reported m fuel buffer ≡ Report.ran (Stopped.end e) steps count bytes →
@@ -191,6 +204,10 @@ module _ (M : LentMachine) where
         (look-word (M .look m path) ≡ l) ↔ LooksAs (M .state-in m) w l
     pub looks-text-fetch : (m : Memories) (path : List ℕ) (w : Written) (bs : List ℕ) → M .WellFormed m → read-path (M .program-in m) (tokens class path) ≡ some w →
         (M .look-text m path ≡ bs) ↔ LooksTextAs (M .program-in m) (M .state-in m) w bs
+    -- write gives the text of the program that the memories hold, whether load made them or not; 23 where the buffer is shorter
+    pub writes : (m : Memories) (buffer : List ℕ) → M .WellFormed m →
+        (write-word (M .write m buffer .answer) ≡ write (M .program-in m) (length buffer))
+        × (M .write m buffer .buffer ≡ buffer-after (M .program-in m) buffer)
 
   -- ---- Demand 3: one claim about the whole list of calls
 
@@ -233,3 +250,33 @@ module _ (M : LentMachine) where
         refusal (lengths m) source F T ≡ 0 → program source ≡ some p →
         let m₀ = M .load m source F T .memories in
         AlikeAfter p F T (lent-reports m₀ cs) (memories-after m₀ cs) (calls p F T (fed cs) (at-start p))
+
+  -- ---- Document 02, A1: a written text loads again, and gives the same program
+
+  -- m₁ are memories that load made, with any runs and collects since; w is what write wrote of them, at most 16,384 bytes; k are any four memories of the right
+  -- lengths to load it into
+  pub record WrittenLoads : Type 0 where
+    pub again : (m : Memories) (source : List ℕ) (F T : ℕ) (cs : List LentCall) (buffer : List ℕ) (n : ℕ) (k : Memories) →
+        refusal (lengths m) source F T ≡ 0 →
+        let m₀ = M .load m source F T .memories in
+        let m₁ = memories-after m₀ cs in
+        let w = take n (M .write m₁ buffer .buffer) in
+        let k₀ = M .load k w F T .memories in
+        M .write m₁ buffer .answer ≡ WriteAnswer.Written n → n ≤ 16384 → right-lengths (lengths k) ≡ true →
+        -- it loads, with the same tree of slots, resolved instructions, literals, names and start, and the same limits
+        (M .load k w F T .answer ≡ LoadAnswer.Loaded)
+        × (M .program-in k₀ ≡ M .program-in m₁)
+        × (M .F-in k₀ ≡ M .F-in m₁)
+        × (M .T-in k₀ ≡ M .T-in m₁)
+        -- the four memories are word for word those that the first load left
+        × (k₀ ≡ m₀)
+        -- and writing that again, after any runs and collects, gives equal bytes
+        × ((ds : List LentCall) (other : List ℕ) → n ≤ length other →
+        M .write (memories-after k₀ ds) other ≡ record { answer = WriteAnswer.Written n; buffer = w ++ drop n other })
+    -- a buffer of 32,767 bytes is never too short for such memories
+    pub always-fits : (m : Memories) (source : List ℕ) (F T : ℕ) (cs : List LentCall) (buffer : List ℕ) →
+        refusal (lengths m) source F T ≡ 0 → 32767 ≤ length buffer →
+        (n : ℕ) × (M .write (memories-after (M .load m source F T .memories) cs) buffer .answer ≡ WriteAnswer.Written n)
+    -- and a write of them is refused for a short buffer alone
+    pub never-not-well-formed : (m : Memories) (source : List ℕ) (F T : ℕ) (cs : List LentCall) (buffer : List ℕ) → refusal (lengths m) source F T ≡ 0 →
+        M .write (memories-after (M .load m source F T .memories) cs) buffer .answer ≢ WriteAnswer.NotWellFormed

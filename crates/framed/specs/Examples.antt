@@ -1,5 +1,6 @@
 -- Document 01, "A printed run and the proved examples": what each example says, from the bytes of a source to the reports.
--- `ProvedExamples` is the conjunction that the document asks for; `PrintedRun` is the example of `framerun`. Assumes nothing.
+-- `ProvedExamples` is the conjunction that the document asks for; `PrintedRun` is the example of `framerun`; `WrittenExamples` are texts of document 02, A1.
+-- Assumes nothing.
 use mathlib.Core.Path.{_≡_}
 use mathlib.Core.List.{List, [], _∷_, _++_}
 use mathlib.Core.Option.{Option, none, some}
@@ -11,6 +12,7 @@ use Rattle.framed.specs.Tree.{Base, Instruction, Code, _then_}
 use Rattle.framed.specs.Paths.{Path, from-program}
 use Rattle.framed.specs.Meaning.{refusal}
 use Rattle.framed.specs.Program.{Program, program}
+use Rattle.framed.specs.Writer.{text}
 use Rattle.framed.specs.Answers.{Stopped, Report}
 use Rattle.framed.specs.Calls.{Call, run-call, calls, at-start}
 use Rattle.framed.specs.Framerun.{right-memories, framerun, Framerun}
@@ -96,7 +98,27 @@ printed-source =
 unfoldable pub PrintedRun : Type 0
 PrintedRun = framerun printed-source ≡ bytes "n=7\nend 0 steps 4 frames 3 texts 1\n"
 
+-- ---- Document 02, A1: the text of a source's program
+
+unfoldable pub text-of : Option Program → List ℕ
+text-of none = []
+text-of (some p) = text p
+
+abbrev pub rewrites : String → String → Type 0
+rewrites source written = text-of (program (bytes source)) ≡ bytes written
+
+unfoldable pub WrittenExamples : Type 0
+WrittenExamples =
+    -- spaces and last commas
+    rewrites "frame:[Main:=frame:[start:=code{},],]" "frame : [ Main := frame : [ start := code { } ] ]"
+    -- integers; a path into the holding frame, into its parent, to the holding frame itself, to the program frame, and down into a frame beside it
+    × rewrites "frame: [ b := -007, c := frame: [ d := -0 ], Main := frame: [ start := code { show ^.^.Main.n; show ^.^.b; ^ := !^.^.c.d; jump ^.^ \"x;\"; } ] ]"
+    "frame : [ b := -7 , c := frame : [ d := 0 ] , Main := frame : [ start := code { show ^.n ; show ^.^.b ; ^ := ! ^.^.c.d ; jump ^.^ \"x;\" ; } ] ]"
+    -- code in code adds no level, and a frame in code none
+    × rewrites "frame: [ Main := frame: [ start := code { self.f := frame: [ h := code { ifeq ^.^.Main self.a.b code {}; } ]; } ] ]"
+    "frame : [ Main := frame : [ start := code { self.f := frame : [ h := code { ifeq ^ self.a.b code { } ; } ] ; } ] ]"
+
 -- to compute with these, a proof unfolds `Examples`
 unfoldable pub Examples : Type 0
-unfolding load-gives reports-of reports main runs codes-of name-of Framerun
+unfolding load-gives reports-of reports main runs codes-of name-of text-of Framerun
 Examples = ℕ

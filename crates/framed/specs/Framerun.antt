@@ -16,6 +16,7 @@ use Rattle.framed.specs.Program.{Program, program, Programs}
 use Rattle.framed.specs.Values.{decimal, Values}
 use Rattle.framed.specs.Fetch.{Fetch}
 use Rattle.framed.specs.Reach.{Reach}
+use Rattle.framed.specs.Writer.{Writer}
 use Rattle.framed.specs.Machine.{Machine}
 use Rattle.framed.specs.Answers.{Stopped}
 use Rattle.framed.specs.Calls.{Ran, run, at-start, frame-total, text-total, Calls}
@@ -50,5 +51,5 @@ framerun source =
 
 -- to compute with `framerun`, a proof unfolds `Framerun`
 unfoldable pub Framerun : Type 0
-unfolding number stop-bytes last-line printed framerun Common Bytes Tokens Symbols Parse Paths Meaning Programs Values Fetch Reach Machine Calls
+unfolding number stop-bytes last-line printed framerun Common Bytes Tokens Symbols Parse Paths Meaning Programs Values Fetch Reach Machine Writer Calls
 Framerun = ℕ

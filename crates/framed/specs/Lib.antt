@@ -1,4 +1,4 @@
--- Document 01 (Framed and its frame machine) as definitions, in the order of reading.
+-- Document 01 (Framed and its frame machine) and what document 02 changes, as definitions, in the order of reading.
 pub mod Common
 pub mod Bytes
 pub mod Tokens
@@ -15,6 +15,7 @@ pub mod Accepted
 pub mod Values
 pub mod Fetch
 pub mod Reach
+pub mod Writer
 pub mod Machine
 pub mod Judgments
 pub mod Answers

@@ -4,8 +4,8 @@ use mathlib.Core.Logic.{_↔_, _⊎_}
 use mathlib.Core.Bool.{true, false}
 use mathlib.Core.List.{List, []}
 use mathlib.Core.Option.{none, some}
-use Prim.Native.Nat.{ℕ, suc, _+_, _≤_, _<_}
-use lib.ListN.{length}
+use Prim.Native.Nat.{ℕ, suc, _+_, _-_, _≤_, _<_}
+use lib.ListN.{length, take}
 use Rattle.framed.specs.declared.Value.{Value}
 use Rattle.framed.specs.declared.Text.{Text}
 use Rattle.framed.specs.Common.{member, has-twice, _∈_, Twice}
@@ -15,13 +15,14 @@ use Rattle.framed.specs.Symbols.{Symbol, name-table}
 use Rattle.framed.specs.Tree.{Written, Slots, Instruction, Code, _then_}
 use Rattle.framed.specs.Grammar.{Source}
 use Rattle.framed.specs.Parse.{parse}
-use Rattle.framed.specs.Paths.{Path}
+use Rattle.framed.specs.Paths.{Place, holder, names-up, above-program, Path, resolve-path}
 use Rattle.framed.specs.Meaning.{Piece, pieces, Lengths, refusal}
 use Rattle.framed.specs.Occurrences.{Occurs}
 use Rattle.framed.specs.Refusals.{Holds}
 use Rattle.framed.specs.Program.{Program, program}
 use Rattle.framed.specs.Values.{Frame, Heap}
 use Rattle.framed.specs.Fetch.{fetch}
+use Rattle.framed.specs.Writer.{common-prefix, written-path}
 use Rattle.framed.specs.Machine.{State, Effect, gives, ends, Ready, right-side, frame-literals, join-signs, step, start}
 use Rattle.framed.specs.Judgments.{Fetch⇒, start-path, P⇒, Rule, FirstMet, RunsTo}
 use Rattle.framed.specs.Answers.{Stopped, Look}
@@ -154,3 +155,14 @@ pub record Counts (In : ℕ → Type 0) (total : ℕ) : Type 0 where
 pub record ReachCounts : Type 0 where
   pub frames : (s : State) → Counts (λ n. InReach s (Value.Frame n)) (frame-total s)
   pub texts : (s : State) → Counts (λ k. InReach s (Value.Text (Text.Made k))) (text-total s)
+
+-- ---- Document 02, A1
+
+-- A path is written so that it means the same list and is never above the program frame. It climbs no further than any other way to write the list, and the
+-- frame that it climbs to is one that the list and the holding frame share
+pub record PathWritten : Type 0 where
+  pub same-path : (place : Place) (q : Path) → resolve-path place (written-path place q) ≡ q
+  pub not-above : (place : Place) (q : Path) → above-program place (written-path place q) ≡ false
+  pub deepest : (place : Place) (further : ℕ) (ns : List ℕ) → further ≤ length (holder place) →
+      length (holder place) - common-prefix (holder place) (names-up (holder place) further ns) ≤ further
+  pub is-shared : (hs ns : List ℕ) → take (common-prefix hs ns) hs ≡ take (common-prefix hs ns) ns

@@ -70,6 +70,13 @@ pub enum CollectAnswer {
     NotWellFormed,
 }
 
+// What write answers: the length of the text; or why not.
+pub enum WriteAnswer {
+    Written(usize),
+    NotWellFormed,
+    ShortBuffer,
+}
+
 // What look answers: the kind, for an integer with the number; or why not.
 pub enum LookAnswer {
     Integer(i32),

@@ -1,3 +1,4 @@
 pub mod Run
 pub mod Collect
 pub mod Look
+pub mod Write

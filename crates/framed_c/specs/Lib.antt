@@ -2,3 +2,4 @@ pub mod Load
 pub mod Run
 pub mod Collect
 pub mod Look
+pub mod Write

@@ -3,11 +3,13 @@
 use framed::CollectAnswer;
 use framed::LookAnswer;
 use framed::RunAnswer;
+use framed::WriteAnswer;
 ghost use Rattle.load.specs.Load.{memories};
 ghost use Rattle.framed_c.specs.Load.{LoadsInC};
 ghost use Rattle.framed_c.specs.Run.{RunsInC};
 ghost use Rattle.framed_c.specs.Collect.{CollectsInC};
 ghost use Rattle.framed_c.specs.Look.{LooksInC, LooksTextInC};
+ghost use Rattle.framed_c.specs.Write.{WritesInC};
 
 #[no_mangle]
 pub extern "C" fn framed_load(
@@ -104,4 +106,23 @@ pub extern "C" fn framed_look_text<'a>(
     let bytes = look::look_text(p, h, l, t, path);
     splice::write(out, 0, bytes);
     bytes.len()
+}
+
+#[no_mangle]
+pub extern "C" fn framed_write(
+    p: &[u32],
+    h: &[u32],
+    l: &[u8],
+    t: &[u8],
+    out: &mut [u8],
+    length: &mut usize,
+) -> u32
+    ensures { λ r. ⌜ WritesInC (now (p .entry)) (now (h .entry)) (now (l .entry)) (now (t .entry)) (now (out .entry)) (now (length .entry)) r (now (out .exit)) (now (length .exit)) ⌝ }
+{
+    let a = write::write(p, h, l, t, out);
+    let WriteAnswer::Written(n) = a else {
+        return answers::write_number(a);
+    };
+    *length = n;
+    answers::write_number(a)
 }

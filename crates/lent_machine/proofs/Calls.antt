@@ -1,4 +1,4 @@
--- Lists of calls over lent memories follow the bounded machine's; 36 exactly. For any load and look. Assumes nothing.
+-- Lists of calls over lent memories follow the bounded machine's; 36 exactly. For any other calls. Assumes nothing.
 use Prim.Native.Nat.{ℕ, _+_, _<_}
 use mathlib.Core.Path.{_≡_, refl, _∙_, ap, ap₂, sym, subst}
 use mathlib.Core.Logic.{_↔_}
@@ -25,7 +25,7 @@ use Rattle.word_store.specs.Store as store
 use Rattle.word_store.specs.Store.{word-store}
 use Rattle.running.specs.Running.{bounded-held, bounded-run, BoundedForm}
 use Rattle.running.proofs.Laws.{bounded-form, same-state}
-use Rattle.lent_machine.specs.Machine.{formed, run-lent, collect-lent, LoadCall, LookCall, LookTextCall, machine-with, Started}
+use Rattle.lent_machine.specs.Machine.{formed, run-lent, collect-lent, OtherCalls, machine-with, Started}
 use Rattle.lent_machine.proofs.Runs.{bounded-of, run-reports, run-state, run-formed}
 use Rattle.lent_machine.proofs.Collects.{collect-reports, collect-state, collect-formed}
 
@@ -71,9 +71,9 @@ module _ {why s : Stopped} {steps n c : ℕ} {b : List ℕ} {r : Report} (e : r 
   pub means-stops : s ≡ why → n ≡ steps → StopsAfter why steps r
   means-stops es en = rw (e, es, en) stops
 
-module _ (load : LoadCall) (look : LookCall) (look-text : LookTextCall) where
+module _ (others : OtherCalls) where
   abbrev pub M : LentMachine
-  M = machine-with load look look-text
+  M = machine-with others
 
   -- after the first call, from memories with the same program
   module _ (m m₁ : Memories) (c : Call) (cs : List Call) (r : Report) (b : Bounded store.Memories) (rs : List Report) (m′ : Memories)

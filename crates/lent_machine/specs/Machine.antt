@@ -1,4 +1,4 @@
--- The machine over lent memories of crate `framed`'s demands, with this layout and the very definitions that the contracts of run and collect cite. Load and look
+-- The machine over lent memories of crate `framed`'s demands, with this layout and the very definitions that the contracts of run and collect cite. The other calls
 -- are given to it, so that what concerns run and collect is proved without them. Assumes nothing.
 use Prim.Native.Nat.{ℕ}
 use mathlib.Core.Path.{_≡_}
@@ -7,7 +7,7 @@ use Rattle.framed.specs.declared.LookAnswer.{LookAnswer}
 use Rattle.framed.specs.Machine.{start}
 use Rattle.framed.specs.Program.{Program, program}
 use Rattle.framed.specs.Alike.{Alike}
-use Rattle.framed.specs.Demands.{Memories, Loading, Running, Collecting, LentMachine}
+use Rattle.framed.specs.Demands.{Memories, Loading, Running, Collecting, Writing, LentMachine}
 use Rattle.tables.specs.Fields.{frame-limit, text-limit}
 use Rattle.trees.specs.Held.{program-held}
 use Rattle.heap.specs.Words.{end-mark}
@@ -34,24 +34,23 @@ collect-lent m =
     let r = collect.collect-call (m .program) (m .heap) (m .literal) (m .text) in
     record { answer = r .answer; memories = with-state m (r .heap) (m .text) }
 
-abbrev pub LoadCall : Type 0
-LoadCall = Memories → List ℕ → ℕ → ℕ → Loading
+-- the calls that are given to it
+pub record OtherCalls : Type 0 where
+  pub load : Memories → List ℕ → ℕ → ℕ → Loading
+  pub look : Memories → List ℕ → LookAnswer
+  pub look-text : Memories → List ℕ → List ℕ
+  pub write : Memories → List ℕ → Writing
 
-abbrev pub LookCall : Type 0
-LookCall = Memories → List ℕ → LookAnswer
-
-abbrev pub LookTextCall : Type 0
-LookTextCall = Memories → List ℕ → List ℕ
-
-abbrev pub machine-with : LoadCall → LookCall → LookTextCall → LentMachine
-machine-with load look look-text =
+abbrev pub machine-with : OtherCalls → LentMachine
+machine-with others =
     record {
       WellFormed = formed;
-      load = load;
+      load = others .load;
       run = run-lent;
       collect = collect-lent;
-      look = look;
-      look-text = look-text;
+      look = others .look;
+      look-text = others .look-text;
+      write = others .write;
       program-in = λ m. program-held (m .program) (m .literal);
       F-in = λ m. frame-limit (m .program);
       T-in = λ m. text-limit (m .program);

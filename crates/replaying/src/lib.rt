@@ -3,6 +3,7 @@ use framed::CollectAnswer;
 use framed::LookAnswer;
 use framed::RunAnswer;
 use framed::RunReport;
+use framed::WriteAnswer;
 use input::Input;
 use libc::STDOUT_FILENO;
 use script::Call;
@@ -164,6 +165,44 @@ fn look_call<'a>(
     true
 }
 
+fn put_written(text: &[u8]) {
+    put(b"write bytes ");
+    io::print_decimal(STDOUT_FILENO, text.len() as u64);
+    put(b" ");
+    put(text);
+    put(b"\n");
+}
+
+fn write_slice(
+    p: &[u32; 16384],
+    h: &[u32; 16384],
+    l: &[u8; 8192],
+    t: &[u8; 16384],
+    out: &mut [u8],
+) {
+    let answer = write::write(p, h, l, t, out);
+    match answer {
+        WriteAnswer::Written(n) => put_written(printing::front(out, n)),
+        _ => put_refused(answers::write_number(answer)),
+    }
+}
+
+// The space of a script's write is at most 32,768.
+fn write_call(
+    p: &[u32; 16384],
+    h: &[u32; 16384],
+    l: &[u8; 8192],
+    t: &[u8; 16384],
+    space: u32,
+) -> bool {
+    let mut out = [0u8; 32768];
+    let n = words::wide(space);
+    if n <= 32768 {
+        write_slice(p, h, l, t, &mut out[..n]);
+    }
+    true
+}
+
 // ---- The script
 
 fn make_call(
@@ -189,6 +228,7 @@ fn make_call(
         Call::Run(fuel, space) => run_call(p, h, l, t, fuel, space),
         Call::Collect => collect_call(p, h, l, t),
         Call::Look(begin, end) => look_call(p, h, l, t, token::string_bytes(s, begin, end)),
+        Call::Write(space) => write_call(p, h, l, t, space),
     }
 }
 

@@ -6,7 +6,7 @@ use Prim.Native.Nat.{ℕ, _<_, _≤_}
 use borrow.Author.Tests.{ne-eqb, le-leb, lt-leb}
 use Rattle.framed.specs.Common.{bytes, same}
 use Rattle.source.specs.Positions.{part}
-use Rattle.script.specs.Script.{is-open, called, after-name, string-for, after-string, space-for, integer-for, after-integer, after-token}
+use Rattle.script.specs.Script.{is-open, called, after-name, string-for, after-string, space-for, write-space-for, integer-for, after-integer, after-token}
 use Rattle.script.specs.declared.Argument.{Argument}
 use Rattle.script.specs.declared.Call.{Call}
 use Rattle.script.specs.declared.Script.{Script}
@@ -33,6 +33,12 @@ module _ (fuel a p n : ℕ) where
   pub space-unfit : 4096 < n → Script.Unfit a p ≡ space-for fuel a p n
   space-unfit l = rw (lt-leb n 4096 l)
 
+pub write-space-fits : (a p n : ℕ) → n ≤ 32768 → Script.Complete (Call.Write n) ≡ write-space-for a p n
+write-space-fits a p n l = rw (le-leb n 32768 l)
+
+pub write-space-unfit : (a p n : ℕ) → 32768 < n → Script.Unfit a p ≡ write-space-for a p n
+write-space-unfit a p n l = rw (lt-leb n 32768 l)
+
 -- ---- Names
 
 module _ (w : List ℕ) (a p : ℕ) (t0 : Bool) (e0 : t0 ≡ same w (108 ∷ 111 ∷ 97 ∷ 100 ∷ [])) where
@@ -55,9 +61,14 @@ module _ (w : List ℕ) (a p : ℕ) (t0 : Bool) (e0 : t0 ≡ same w (108 ∷ 111
         unfolding called bytes
         call-look h = rw (sym e0 ∙ f0, sym e1 ∙ f1, sym e2 ∙ f2, sym e3 ∙ h)
 
-        pub call-none : t3 ≡ false → Script.Unfit a p ≡ called w a p
-        unfolding called bytes
-        call-none h = rw (sym e0 ∙ f0, sym e1 ∙ f1, sym e2 ∙ f2, sym e3 ∙ h)
+        module _ (f3 : t3 ≡ false) (t4 : Bool) (e4 : t4 ≡ same w (119 ∷ 114 ∷ 105 ∷ 116 ∷ 101 ∷ [])) where
+          pub call-write : t4 ≡ true → Script.Open Argument.WriteSpace ≡ called w a p
+          unfolding called bytes
+          call-write h = rw (sym e0 ∙ f0, sym e1 ∙ f1, sym e2 ∙ f2, sym e3 ∙ f3, sym e4 ∙ h)
+
+          pub call-none : t4 ≡ false → Script.Unfit a p ≡ called w a p
+          unfolding called bytes
+          call-none h = rw (sym e0 ∙ f0, sym e1 ∙ f1, sym e2 ∙ f2, sym e3 ∙ f3, sym e4 ∙ h)
 
 module _ (s : List ℕ) (x : Script) (a p : ℕ) (t : Bool) (e : t ≡ is-open x) where
   pub name-inside : t ≡ true → Script.Unfit a p ≡ after-name s x a p

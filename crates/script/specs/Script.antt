@@ -23,6 +23,7 @@ called name a p =
     else if same name (bytes "run") then Script.Open Argument.RunFuel
     else if same name (bytes "collect") then Script.Complete Call.Collect
     else if same name (bytes "look") then Script.Open Argument.LookPath
+    else if same name (bytes "write") then Script.Open Argument.WriteSpace
     else Script.Unfit a p
 
 -- a name fits where a call begins
@@ -37,6 +38,7 @@ string-for (Argument.LoadTexts b e f) a p = Script.Unfit a p
 string-for Argument.RunFuel a p = Script.Unfit a p
 string-for (Argument.RunSpace fuel) a p = Script.Unfit a p
 string-for Argument.LookPath a p = Script.Complete (Call.Look a p)
+string-for Argument.WriteSpace a p = Script.Unfit a p
 
 abbrev pub after-string : Script → ℕ → ℕ → Script
 after-string Script.Name a p = Script.Unfit a p
@@ -44,9 +46,12 @@ after-string (Script.Open x) a p = string-for x a p
 after-string (Script.Complete c) a p = Script.Unfit a p
 after-string (Script.Unfit b e) a p = Script.Unfit a p
 
--- an integer, by its word of 32 bits, is F or T of a load, or the fuel or the space of a run, which is at most 4,096
+-- an integer, by its word of 32 bits, is F or T of a load, the fuel or the space of a run, which is at most 4,096, or the space of a write, at most 32,768
 abbrev pub space-for : ℕ → ℕ → ℕ → ℕ → Script
 space-for fuel a p n = if leb n 4096 then Script.Complete (Call.Run fuel n) else Script.Unfit a p
+
+abbrev pub write-space-for : ℕ → ℕ → ℕ → Script
+write-space-for a p n = if leb n 32768 then Script.Complete (Call.Write n) else Script.Unfit a p
 
 abbrev pub integer-for : Argument → ℕ → ℕ → ℕ → Script
 integer-for Argument.LoadFile a p n = Script.Unfit a p
@@ -55,6 +60,7 @@ integer-for (Argument.LoadTexts b e f) a p n = Script.Complete (Call.Load b e f 
 integer-for Argument.RunFuel a p n = Script.Open (Argument.RunSpace n)
 integer-for (Argument.RunSpace fuel) a p n = space-for fuel a p n
 integer-for Argument.LookPath a p n = Script.Unfit a p
+integer-for Argument.WriteSpace a p n = write-space-for a p n
 
 abbrev pub after-integer : Script → ℕ → ℕ → ℕ → Script
 after-integer Script.Name a p n = Script.Unfit a p

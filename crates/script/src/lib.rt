@@ -1,6 +1,6 @@
 // The script of `replay`, read token by token: which call comes, and its arguments.
 ghost use mathlib.Core.Path.{_≡_};
-ghost use Rattle.script.specs.Script.{is-open, called, after-name, string-for, after-string, space-for, integer-for, after-integer, after-token};
+ghost use Rattle.script.specs.Script.{is-open, called, after-name, string-for, after-string, space-for, write-space-for, integer-for, after-integer, after-token};
 
 // The argument of a call that comes next, with those before it. A string is given by where it begins and ends.
 pub enum Argument {
@@ -10,14 +10,16 @@ pub enum Argument {
     RunFuel,
     RunSpace(u32),
     LookPath,
+    WriteSpace,
 }
 
-// A call with its arguments: a file, F and T; fuel and space; none; a path.
+// A call with its arguments: a file, F and T; fuel and space; none; a path; space.
 pub enum Call {
     Load(usize, usize, u32, u32),
     Run(u32, u32),
     Collect,
     Look(usize, usize),
+    Write(u32),
 }
 
 // What a script has come to: the name of a call comes next, or an argument; a call is complete; or a token, from where it begins to where it
@@ -57,6 +59,9 @@ fn called(name: &[u8], begin: usize, end: usize) -> Script
     if lexeme::is_word(name, b"look") {
         return Script::Open(Argument::LookPath);
     }
+    if lexeme::is_word(name, b"write") {
+        return Script::Open(Argument::WriteSpace);
+    }
     Script::Unfit(begin, end)
 }
 
@@ -80,6 +85,7 @@ fn string_for(argument: Argument, begin: usize, end: usize) -> Script
         Argument::RunFuel => Script::Unfit(begin, end),
         Argument::RunSpace(_fuel) => Script::Unfit(begin, end),
         Argument::LookPath => Script::Complete(Call::Look(begin, end)),
+        Argument::WriteSpace => Script::Unfit(begin, end),
     }
 }
 
@@ -104,6 +110,16 @@ fn space_for(fuel: u32, begin: usize, end: usize, n: u32) -> Script
     Script::Unfit(begin, end)
 }
 
+// A write's space is at most 32,768.
+fn write_space_for(begin: usize, end: usize, n: u32) -> Script
+    ensures { λ r. ⌜ r ≡ write-space-for begin end n ⌝ }
+{
+    if n <= 32768 {
+        return Script::Complete(Call::Write(n));
+    }
+    Script::Unfit(begin, end)
+}
+
 // An integer for an argument, as its word.
 fn integer_for(argument: Argument, begin: usize, end: usize, n: u32) -> Script
     ensures { λ r. ⌜ r ≡ integer-for argument begin end n ⌝ }
@@ -115,6 +131,7 @@ fn integer_for(argument: Argument, begin: usize, end: usize, n: u32) -> Script
         Argument::RunFuel => Script::Open(Argument::RunSpace(n)),
         Argument::RunSpace(fuel) => space_for(fuel, begin, end, n),
         Argument::LookPath => Script::Unfit(begin, end),
+        Argument::WriteSpace => write_space_for(begin, end, n),
     }
 }
 

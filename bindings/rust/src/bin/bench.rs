@@ -17,12 +17,18 @@ struct Calls {
     run: fn(&[u32], &mut [u32], &[u8], &mut [u8], u32, &mut [u8]) -> Result<RunReport, Refusal>,
     collect: fn(&[u32], &mut [u32], &[u8], &[u8]) -> Result<framed::Totals, Refusal>,
     look: fn(&[u32], &[u32], &[u8], &[u8], &[u8]) -> Result<framed::Found, Refusal>,
+    write: fn(&[u32], &[u32], &[u8], &[u8], &mut [u8]) -> Result<usize, Refusal>,
 }
 
 const PLAIN: Calls =
-    Calls { load: plain::load, run: plain::run, collect: plain::collect, look: plain::look };
-const PROVED: Calls =
-    Calls { load: machine::load, run: machine::run, collect: machine::collect, look: machine::look };
+    Calls { load: plain::load, run: plain::run, collect: plain::collect, look: plain::look, write: plain::write };
+const PROVED: Calls = Calls {
+    load: machine::load,
+    run: machine::run,
+    collect: machine::collect,
+    look: machine::look,
+    write: machine::write,
+};
 
 impl Calls {
     fn load(&self, source: &str, frames: u32, m: &mut Memories) {
@@ -132,6 +138,16 @@ fn steps(calls: &Calls, source: &str, frames: u32) -> f64 {
     }) / f64::from(fuel)
 }
 
+/// Seconds for one write of a source's program.
+fn write(calls: &Calls, source: &str) -> f64 {
+    let m = calls.loaded(source, 256);
+    let mut text = vec![0; framed::TEXT_BUFFER];
+    time(|| {
+        let length = (calls.write)(&m.program, &m.heap, &m.literals, &m.texts, black_box(&mut text));
+        assert!(length.is_ok_and(|length| length > 0));
+    })
+}
+
 const MEASURES: &[Measure] = &[
     Measure {
         name: "load, source of 16,384 bytes",
@@ -224,6 +240,8 @@ const MEASURES: &[Measure] = &[
             })
         },
     },
+    Measure { name: "write, source of 16,384 bytes", item: "call", seconds: |calls| write(calls, &long_source()) },
+    Measure { name: "write, drive model", item: "call", seconds: |calls| write(calls, DRIVE) },
 ];
 
 struct Row {

@@ -1,5 +1,5 @@
 //! Which end an instruction gives, and which of its operands is at fault.
-use super::words::{counted, kind, quoted, short, sign};
+use super::words::{counted, kind, quoted, short};
 use super::Places;
 use crate::plain::collect::collect;
 use crate::plain::heap::{self, Heap, Value};
@@ -147,7 +147,7 @@ impl Step<'_> {
             _ => false,
         };
         let wrong = if takes(a.value) { b } else { a };
-        let (shown, kind, sign) = (self.shown(wrong.x), kind(wrong.value), sign(operator));
+        let (shown, kind, sign) = (self.shown(wrong.x), kind(wrong.value), operator.sign());
         let detail = if join {
             format!("`#` joins texts and integers; {shown} is {kind}")
         } else {
@@ -205,7 +205,7 @@ fn exact(operator: Operator, a: Value, b: Value) -> String {
         Operator::Times => n * m,
         _ => n.checked_div(m).unwrap_or(0),
     };
-    format!("{a} {} {b} is {result}, the range is {} to {}", sign(operator), i32::MIN, i32::MAX)
+    format!("{a} {} {b} is {result}, the range is {} to {}", operator.sign(), i32::MIN, i32::MAX)
 }
 
 /// The names of the program, and the source for how paths are written.

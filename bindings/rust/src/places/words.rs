@@ -1,6 +1,5 @@
 //! Words for what is found in a source or in the memories.
 use crate::plain::heap::Value;
-use crate::plain::token::Operator;
 
 /// As many bytes of a source or a path are shown.
 const MOST_SHOWN: usize = 70;
@@ -42,19 +41,5 @@ pub fn kind(value: Value) -> &'static str {
         Value::Literal(_) | Value::Made(_) => "a text",
         Value::Code(_) => "a code",
         Value::Frame(_) => "a frame",
-    }
-}
-
-pub fn sign(operator: Operator) -> &'static str {
-    match operator {
-        Operator::Plus => "+",
-        Operator::Minus => "-",
-        Operator::Times => "*",
-        Operator::Over => "/",
-        Operator::Less => "<",
-        Operator::Join => "#",
-        Operator::Equal => "==",
-        Operator::And => "&&",
-        Operator::Or => "||",
     }
 }

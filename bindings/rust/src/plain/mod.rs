@@ -1,4 +1,5 @@
-//! A plain implementation of the specification over the four memories: load, run, collect, look and its companion.
+//! A plain implementation of the specification over the four memories: load, run, collect, look and its companion,
+//! and write.
 //!
 //! It follows the specification and docs/LAYOUT.md and shares no code with the proved machine. It was not written blind:
 //! the definitions and the source of the proved crates were read before, for the words that load and a step write, so that
@@ -16,15 +17,17 @@ pub(crate) mod parse;
 pub(crate) mod run;
 pub(crate) mod token;
 pub(crate) mod whole;
+mod write;
 
 pub use framerun::framerun;
 pub use load::load;
 pub use look::{look, look_text};
+pub use write::write;
 
 use crate::{Refusal, RunReport, Totals};
 use heap::Heap;
 
-/// The refusal of run, collect and look: the memories are not whole.
+/// The refusal of every call but load: the memories are not whole.
 const NOT_WHOLE: Refusal = Refusal(20);
 
 /// Runs for at most `fuel` steps. Shows are written to the front of `out`; nothing else of it is touched.

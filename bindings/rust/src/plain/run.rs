@@ -6,7 +6,7 @@ use super::token::{Operator, STRING_BYTES};
 use crate::{End, RunReport, Stop};
 
 /// The longest decimal integer, `-2147483648`.
-const DECIMAL_BYTES: usize = 11;
+pub const DECIMAL_BYTES: usize = 11;
 
 pub struct Machine<'a> {
     program: &'a Program,
@@ -388,7 +388,7 @@ fn arithmetic(v: Value, w: Value, f: impl Fn(i64, i64) -> Result<i64, End>) -> R
 }
 
 /// The decimal digits of an integer, with its sign.
-fn decimal(n: i32, digits: &mut [u8; DECIMAL_BYTES]) -> &[u8] {
+pub fn decimal(n: i32, digits: &mut [u8; DECIMAL_BYTES]) -> &[u8] {
     let mut rest = n.unsigned_abs();
     let mut start = DECIMAL_BYTES;
     loop {

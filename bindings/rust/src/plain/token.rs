@@ -15,6 +15,23 @@ pub enum Operator {
     Or,
 }
 
+impl Operator {
+    /// As it is written.
+    pub fn sign(self) -> &'static str {
+        match self {
+            Operator::Plus => "+",
+            Operator::Minus => "-",
+            Operator::Times => "*",
+            Operator::Over => "/",
+            Operator::Less => "<",
+            Operator::Join => "#",
+            Operator::Equal => "==",
+            Operator::And => "&&",
+            Operator::Or => "||",
+        }
+    }
+}
+
 #[derive(Clone, Copy, Debug, PartialEq, Eq)]
 pub enum Token<'a> {
     Name(&'a [u8]),

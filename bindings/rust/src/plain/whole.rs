@@ -1,4 +1,4 @@
-//! Whether memories are whole: what the specification asks of them before a run, a collect or a look.
+//! Whether memories are whole: what the specification asks of them before every call but load.
 use super::heap::{self, Heap};
 use super::layout::{self, entry, expression_kind, instruction_kind, Literals, Program, Texts};
 use super::token::{in_string, NAME_BYTES, STRING_BYTES};

@@ -2,7 +2,7 @@
 //! test, so that every run tries the same inputs. FRAMED_ROUNDS sets how many.
 #![allow(dead_code)]
 
-use framed::Memories;
+use framed::{plain, Memories};
 use std::fs;
 use std::path::{Path, PathBuf};
 
@@ -457,4 +457,103 @@ pub fn stored_sources() -> Vec<Vec<u8>> {
         .flat_map(|folder| files(&top().join(folder), "framed"))
         .map(|path| fs::read(path).unwrap())
         .collect()
+}
+
+/// Program words to which entries are added, over a cleared heap: whole memories that no source has. docs/LAYOUT.md has the
+/// words.
+pub struct Built(pub Memories);
+
+impl Built {
+    pub fn new() -> Built {
+        let mut memories = Memories::new();
+        // F and T
+        memories.program[..2].copy_from_slice(&[256, 256]);
+        Built(memories)
+    }
+
+    /// The number of one more entry, of which this word counts how many there are.
+    fn entry(&mut self, count: usize) -> u32 {
+        self.0.program[count] += 1;
+        self.0.program[count] - 1
+    }
+
+    fn words(&mut self, at: usize, words: &[u32]) {
+        self.0.program[at..at + words.len()].copy_from_slice(words);
+    }
+
+    pub fn name(&mut self, bytes: &[u8]) -> u32 {
+        let k = self.entry(2);
+        let at = 64 + 17 * k as usize;
+        self.words(at, &[bytes.len() as u32]);
+        self.words(at + 1, &bytes.iter().map(|&byte| byte.into()).collect::<Vec<_>>());
+        k
+    }
+
+    pub fn literal(&mut self, bytes: &[u8]) -> u32 {
+        let k = self.entry(3);
+        self.words(2_240 + k as usize, &[bytes.len() as u32]);
+        self.0.literals[64 * k as usize..][..bytes.len()].copy_from_slice(bytes);
+        k
+    }
+
+    /// Kind, a, b, slot name and slot link.
+    pub fn expression(&mut self, words: [u32; 5]) -> u32 {
+        let x = self.entry(4);
+        self.words(7_104 + 5 * x as usize, &words);
+        x
+    }
+
+    /// A path that holds these names: kind 2 from self, 3 from the program.
+    pub fn path(&mut self, kind: u32, names: &[u32]) -> u32 {
+        let first = self.0.program[7];
+        self.0.program[7] += names.len() as u32;
+        self.words(2_496 + first as usize, names);
+        self.expression([kind, first, names.len() as u32, 0, 0])
+    }
+
+    /// A code of one instruction, of which this is the kind with a, b and c.
+    pub fn code(&mut self, [kind, a, b, c]: [u32; 4]) -> u32 {
+        let (k, i) = (self.entry(6), self.entry(5));
+        self.words(2_368 + k as usize, &[1 + i]);
+        self.words(4_544 + 5 * i as usize, &[kind, a, b, c, 0]);
+        k
+    }
+
+    /// The number that the next expression has.
+    pub fn next(&self) -> u32 {
+        self.0.program[4]
+    }
+
+    /// The memories, with these slots in the program frame.
+    pub fn whole(mut self, slots: u32) -> Memories {
+        self.0.program[8] = slots;
+        let m = &self.0;
+        assert!(plain::is_whole(&m.program, &m.heap, &m.literals, &m.texts));
+        self.0
+    }
+}
+
+/// Frames outside code, each in the one slot `a` of the one around it; innermost a code that assigns so many frames, each in
+/// the one slot of the one around it; innermost a code that does the same; and so on. In the last of them a path climbs
+/// to the program frame and goes down again.
+pub fn deep(outside: u32, codes: u32, inside: u32) -> Memories {
+    let mut built = Built::new();
+    let (a, b) = (built.name(b"a"), built.name(b"b"));
+    for _ in 0..outside {
+        built.expression([5, 1, 0, a, 0]);
+    }
+    for k in 0..codes {
+        built.expression([4, k, 0, a, 0]);
+        let assigned = built.next();
+        assert_eq!(built.code([0, 0, 0, assigned]), k);
+        for _ in 0..inside {
+            built.expression([5, 1, 0, a, 0]);
+        }
+    }
+    let join = built.next();
+    built.expression([12, join + 1, join + 2, a, 0]);
+    built.path(3, &[b]);
+    let literal = built.literal(&[b'x'; 64]);
+    built.expression([1, literal, 0, 0, 0]);
+    built.whole(1)
 }

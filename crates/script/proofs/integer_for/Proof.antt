@@ -8,5 +8,5 @@ integer-for-spec =
     tie.close
     (tie.spec
     (λ c. search needs) (λ c. search needs) (λ c. search needs) (λ c. search needs) (λ c. search needs) (λ c κs. search needs)
-    (λ c. search needs) (λ c. search integer-as) (λ c. search integer-as) (λ c. search integer-as) (λ c. search integer-as)
-    (λ c. search integer-as) (λ c. search integer-as))
+    (λ c. search needs) (λ c. search needs) (λ c κs. search needs) (λ c. search integer-as) (λ c. search integer-as) (λ c. search integer-as)
+    (λ c. search integer-as) (λ c. search integer-as) (λ c. search integer-as) (λ c. search integer-as))

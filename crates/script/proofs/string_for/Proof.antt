@@ -8,5 +8,6 @@ string-for-spec =
     tie.close
     (tie.spec
     (λ c. search needs) (λ c. search needs) (λ c. search needs) (λ c. search needs) (λ c. search needs) (λ c. search needs)
+    (λ c. search needs) (λ c. search string-as)
     (λ c. search string-as) (λ c. search string-as) (λ c. search string-as) (λ c. search string-as) (λ c. search string-as)
     (λ c. search string-as))

@@ -7,6 +7,7 @@ pub enum Command {
     Run,
     Check,
     Trace,
+    Write,
     Replay,
 }
 
@@ -16,6 +17,7 @@ impl Command {
             "run" => Command::Run,
             "check" => Command::Check,
             "trace" => Command::Trace,
+            "write" => Command::Write,
             "replay" => Command::Replay,
             _ => return None,
         })
@@ -26,6 +28,7 @@ impl Command {
             Command::Run => "run",
             Command::Check => "check",
             Command::Trace => "trace",
+            Command::Write => "write",
             Command::Replay => "replay",
         }
     }
@@ -35,7 +38,7 @@ impl Command {
             Command::Run => &["--frames", "--texts", "--fuel", "--look"],
             Command::Check => &["--frames", "--texts"],
             Command::Trace => &["--frames", "--texts", "--fuel"],
-            Command::Replay => &[],
+            Command::Write | Command::Replay => &[],
         }
     }
 

@@ -5,6 +5,7 @@ pub const USAGE: &str = "\
 usage: framed run MODEL [--frames F] [--texts T] [--fuel N] [--look PATH ..]
        framed check MODEL .. [--frames F] [--texts T]
        framed trace MODEL [--frames F] [--texts T] [--fuel N]
+       framed write MODEL
        framed replay SCRIPT
        framed --help | framed COMMAND --help | framed --version";
 
@@ -14,6 +15,7 @@ pub fn usage(command: Command) -> &'static str {
         Command::Run => "framed run MODEL [--frames F] [--texts T] [--fuel N] [--look PATH ..]",
         Command::Check => "framed check MODEL .. [--frames F] [--texts T]",
         Command::Trace => "framed trace MODEL [--frames F] [--texts T] [--fuel N]",
+        Command::Write => "framed write MODEL",
         Command::Replay => "framed replay SCRIPT",
     }
 }
@@ -28,6 +30,7 @@ pub fn text(command: Option<Command>) -> String {
         Command::Run => format!("{RUN}\nusage: {usage}\n\n{LIMITS}{FUEL}{LOOK}\n{STATUS}\n{RUN_EXAMPLES}"),
         Command::Check => format!("{CHECK}\nusage: {usage}\n\n{LIMITS}\n{CHECK_STATUS}\n{CHECK_EXAMPLES}"),
         Command::Trace => format!("{TRACE}\nusage: {usage}\n\n{LIMITS}{FUEL}\n{TRACE_STATUS}\n{TRACE_EXAMPLES}"),
+        Command::Write => format!("{WRITE}\nusage: {usage}\n\n{WRITE_STATUS}\n{WRITE_EXAMPLES}"),
         Command::Replay => format!("{REPLAY}\nusage: {usage}\n\n{REPLAY_STATUS}\n{REPLAY_EXAMPLES}"),
     }
 }
@@ -39,6 +42,7 @@ const COMMANDS: &str = "
   run      runs a model and prints what it shows
   check    says for each model whether it loads, and where and why it does not
   trace    runs a model and prints each instruction that it makes
+  write    prints a model in the one form that all models of the same program have
   replay   makes the calls of a script one after the other and prints each answer
 
 A MODEL or SCRIPT is a file; `-` is standard input. Results go to standard output, words
@@ -115,6 +119,24 @@ examples: framed trace examples/call.framed
           framed trace examples/drive.framed --fuel 50
 ";
 
+const WRITE: &str = "\
+Loads a model and prints its program on one line, in the one form that all models of the same
+program have: one space between neighbouring tokens and none inside a path, no needless zeros,
+no last comma, and each `^` path with as few `^` and names as it can have. Comments are not
+kept. The text loads as the same program, where it has at most 16384 bytes.
+";
+
+const WRITE_STATUS: &str = "\
+status: 0  written
+        2  the model is refused
+        4  wrong usage, or an error of input or output
+";
+
+const WRITE_EXAMPLES: &str = "\
+examples: framed write model.framed > tidy.framed
+          framed write examples/drive.framed | framed run -
+";
+
 const REPLAY: &str = "\
 Makes the calls of a script and prints each answer, as the program `replay` does. Files are
 looked for in the working directory. A script is a list of calls in the tokens of a source:
@@ -124,6 +146,8 @@ looked for in the working directory. A script is a list of calls in the tokens o
                      FUEL -1 is the largest
   collect            collect frames F texts T
   look \"PATH\"        look integer N, look text BYTES, look code, look frame, or refused N
+  write SPACE        write bytes N TEXT, the program as Framed text, or refused N. SPACE is
+                     at most 32768, and 32767 is enough for every model
 
 A token that does not fit is printed behind a `?`, and the next call begins after it.
 ";

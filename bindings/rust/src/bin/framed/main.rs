@@ -1,4 +1,4 @@
-//! `framed`: runs, checks and traces models and replays scripts, over the proved static library.
+//! `framed`: runs, checks, traces and writes models and replays scripts, over the proved static library.
 //!
 //! Results go to standard output, words about them to standard error. The exit status is a [`Status`].
 #![forbid(unsafe_code)]
@@ -13,6 +13,7 @@ mod progress;
 mod replay;
 mod run;
 mod trace;
+mod write;
 
 use arguments::{Command, Options, Request};
 use std::fmt::Display;
@@ -70,6 +71,7 @@ fn make(command: Command, options: &Options, out: &mut impl Write) -> io::Result
         Command::Run => run::run(options, out),
         Command::Check => check::check(options, out),
         Command::Trace => trace::trace(options, out),
+        Command::Write => write::write(options, out),
         Command::Replay => replay::replay(options, out),
     }
 }

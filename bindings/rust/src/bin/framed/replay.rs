@@ -3,7 +3,7 @@
 use crate::arguments::Options;
 use crate::{ending, input, message, run, tell, Status};
 use framed::replay::{self, Calls, Proved, Replayed, SCRIPT_BYTES};
-use framed::{Found, Refusal, RunReport, Stop, Totals};
+use framed::{Found, Refusal, RunReport, Stop, Totals, TEXT_BUFFER};
 use std::io::{self, Write};
 use std::path::Path;
 
@@ -77,6 +77,10 @@ impl Calls for Told<'_> {
         self.proved.look_text(path)
     }
 
+    fn write(&self, out: &mut [u8]) -> Result<usize, Refusal> {
+        self.proved.write(out)
+    }
+
     fn unfit(&mut self, at: usize, why: &str) {
         self.tell(at, why);
     }
@@ -93,6 +97,7 @@ impl Calls for Told<'_> {
         }
         let why = match refusal {
             Refusal(20) if self.model.is_none() => ": nothing is loaded".to_owned(),
+            Refusal(23) => format!(": a SPACE of {TEXT_BUFFER} is enough for every model"),
             _ => message::why_not_found(|path| self.proved.look(path), what.as_bytes(), refusal),
         };
         self.tell(at, &format!("{what}: {refusal}{why}"));

@@ -1,0 +1,4 @@
+pub mod Resolved
+pub mod Meaning
+pub mod Fewer
+pub mod Words
