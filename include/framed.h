@@ -107,7 +107,7 @@ uint32_t framed_load(const uint8_t *source, size_t source_length, uint32_t frame
  * Answers why it stopped; *steps and *bytes become the steps made and the bytes written. After an end from 31 to 37 the
  * memories keep it, and every later run answers it again. With FRAMED_NOT_WHOLE nothing is written, *steps and *bytes
  * included.
- * Stack: at most 15,745 bytes over program words that load wrote, 160,752 over any memories, which may nest frame literals
+ * Stack: at most 15,745 bytes over program words that load wrote, 160,768 over any memories, which may nest frame literals
  * deeper than a source. */
 uint32_t framed_run(const uint32_t *program, size_t program_length, uint32_t *heap, size_t heap_length,
                     const uint8_t *literals, size_t literals_length, uint8_t *text_bytes, size_t text_length,
@@ -139,7 +139,7 @@ size_t framed_look_text(const uint32_t *program, size_t program_length, const ui
  * FRAMED_WRITTEN; with FRAMED_SHORT_BUFFER or FRAMED_NOT_WHOLE nothing is written, *length included. For memories that load
  * made, with any runs and collects since, FRAMED_TEXT_BUFFER bytes are enough; others may have a text of any length, of
  * which no more is looked at than the buffer is long.
- * Stack: at most 15,281 bytes over program words that load wrote, 336,464 over any memories, which may nest frames and code
+ * Stack: at most 31,713 bytes over program words that load wrote, 340,612 over any memories, which may nest frames and code
  * deeper than a source. */
 uint32_t framed_write(const uint32_t *program, size_t program_length, const uint32_t *heap, size_t heap_length,
                       const uint8_t *literals, size_t literals_length, const uint8_t *text_bytes, size_t text_length,

@@ -4,8 +4,8 @@ use mathlib.Core.Path.{_≡_, refl, _∙_, ap, sym}
 use mathlib.Core.List.{List, [], _∷_, _++_}
 use native.Mathlib.Omega.{arith}
 use native.Mathlib.Numerals.{add-one}
-use lib.ListN.{length, getD, set, take, drop, length-set, drop-of-length-le}
-use lib.Seq.{drop-cons, set-out, getD-set-same, getD-set-other, length-sets, sets-eq}
+use lib.ListN.{length, getD, set, take, drop, length-set, drop-of-length-le, take-append-drop}
+use lib.Seq.{length-take-le, drop-cons, set-out, getD-set-same, getD-set-other, length-sets, sets-eq}
 use Rattle.splice.specs.Splice.{splice}
 
 -- ---- What callers cite
@@ -58,7 +58,17 @@ splice-here m at (b ∷ bs) (suc i) lt l =
     let s = length-set m at b in
     rw e (splice-here (set m at b) (suc at) bs i (omega arith) (omega arith))
 
--- ---- write: what is left to write from i on gives the whole
+-- what is past the buffer's end is dropped
+pub splice-front : (m : List ℕ) (at : ℕ) (bs : List ℕ) → at ≤ length m → length m - at < length bs → splice m at (take (length m - at) bs) ≡ splice m at bs
+splice-front m at bs le lt =
+    let k = length m - at in
+    let n : length (take k bs) ≡ k = length-take-le k bs (omega arith) in
+    let z = splice-length m at (take k bs) in
+    sym
+    (ap (splice m at) (sym (take-append-drop k bs)) ∙ splice-append m at (take k bs) (drop k bs)
+    ∙ splice-past (splice m at (take k bs)) (at + length (take k bs)) (drop k bs) (omega arith))
+
+-- ---- copy: what is left to write from i on gives the whole
 
 pub record Writing (m : List ℕ) (at : ℕ) (s now : List ℕ) (i : ℕ) : Type 0 where
   pub inside : i ≤ length s
@@ -67,9 +77,6 @@ pub record Writing (m : List ℕ) (at : ℕ) (s now : List ℕ) (i : ℕ) : Type
 
 pub writing-start : (m : List ℕ) (at : ℕ) (s : List ℕ) → Writing m at s m 0
 writing-start m at s = record { inside = omega arith; size = refl; rest = ap (λ (k : ℕ). splice m k s) {x = at + 0} {y = at} (omega arith) }
-
-pub writing-past : (m : List ℕ) (at : ℕ) (s : List ℕ) → length m < at → m ≡ splice m at s
-writing-past m at s lt = sym (splice-past m at s (omega arith))
 
 module _ (m : List ℕ) (at : ℕ) (s now : List ℕ) (i : ℕ) (a : Writing m at s now i) where
   pub writing-full : length m - at ≤ i → now ≡ splice m at s
@@ -88,3 +95,17 @@ module _ (m : List ℕ) (at : ℕ) (s now : List ℕ) (i : ℕ) (a : Writing m a
         size = length-set now (at + i) (getD s i 0) ∙ a .size;
         rest = rw (← q, add-one i) (rw (drop-cons s i 0 lt) at (a .rest));
       }
+
+-- ---- write
+
+pub write-past : (m : List ℕ) (at : ℕ) (s : List ℕ) → length m < at → m ≡ splice m at s
+write-past m at s lt = sym (splice-past m at s (omega arith))
+
+pub front-size : (n : ℕ) (s : List ℕ) → n < length s → n ≡ length (take n s)
+front-size n s lt = sym (length-take-le n s (omega arith))
+
+pub front-fits : (m : List ℕ) (at : ℕ) (s : List ℕ) → at ≤ length m → length m - at < length s → at + length (take (length m - at) s) ≤ length m
+front-fits m at s le lt = let e = front-size (length m - at) s lt in omega arith
+
+pub write-front : (m m′ : List ℕ) (at : ℕ) (s : List ℕ) → at ≤ length m → length m - at < length s → m′ ≡ splice m at (take (length m - at) s) → m′ ≡ splice m at s
+write-front m m′ at s le lt e = e ∙ splice-front m at s le lt

@@ -2,7 +2,7 @@
 -- and every buffer; and what that means. Assumes nothing.
 use mathlib.Core.Path.{_≡_}
 use mathlib.Core.List.{List, _++_}
-use Prim.Native.Nat.{ℕ}
+use Prim.Native.Nat.{ℕ, _^_, _<_}
 use lib.Dec.{leb}
 use lib.ListN.{length, drop}
 use Rattle.framed.specs.declared.WriteAnswer.{WriteAnswer}
@@ -11,6 +11,7 @@ use Rattle.framed.specs.Calls.{write, buffer-after}
 use Rattle.framed.specs.Writer.{text}
 use Rattle.framed.specs.Demands.{Writing}
 use Rattle.words.specs.Words.{pick}
+use Rattle.program_form.specs.WellFormed as program
 use Rattle.trees.specs.Held.{program-held}
 use Rattle.wellformed.specs.WellFormed.{WellFormed, well-formed}
 
@@ -23,6 +24,11 @@ text-written bs buffer =
     pick (leb (length bs) (length buffer))
     (writing (WriteAnswer.Written (length bs)) (bs ++ drop (length bs) buffer))
     (writing WriteAnswer.ShortBuffer buffer)
+
+-- what writing it asks: well-formed program words, and a buffer, which is no longer than a slice can be
+pub record CanWriteThrough (p l buffer : List ℕ) : Type 0 where
+  pub program : program.WellFormed p l
+  pub small : length buffer < 2 ^ 63
 
 -- 20 first
 unfoldable pub write-call : List ℕ → List ℕ → List ℕ → List ℕ → List ℕ → Writing

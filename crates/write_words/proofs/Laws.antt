@@ -73,16 +73,16 @@ appended-past m limit at bs can lt =
       next = e ∙ sym (capped-past limit (at + length bs) (omega arith));
     }
 
--- the three ways through `append`
-module _ {m m′ bs : List ℕ} {limit at : ℕ} (can : CanAppend m limit at) (w : m′ ≡ splice m at bs) where
-  pub append-past : limit < at → Appended m limit at bs m′ at
-  append-past lt = record { buffer = w; next = appended-past m limit at bs can lt .next }
+-- the three ways through `moved`
+module _ (limit at n : ℕ) where
+  pub moved-past : at ≤ limit + 1 → limit < at → at ≡ capped limit (at + n)
+  moved-past le lt = let c = capped-past limit (at + n) (omega arith) in omega arith
 
-  pub append-long : limit - at < length bs → Appended m limit at bs m′ (limit + 1)
-  append-long lt = record { buffer = w; next = sym (capped-past limit (at + length bs) (omega arith)) }
+  pub moved-long : at ≤ limit → limit - at < n → limit + 1 ≡ capped limit (at + n)
+  moved-long le lt = sym (capped-past limit (at + n) (omega arith))
 
-  pub append-fits : at ≤ limit → length bs ≤ limit - at → Appended m limit at bs m′ (at + length bs)
-  append-fits no-past no-long = record { buffer = w; next = sym (capped-fits limit (at + length bs) (omega arith)) }
+  pub moved-fits : at ≤ limit → n ≤ limit - at → at + n ≡ capped limit (at + n)
+  moved-fits le fits = sym (capped-fits limit (at + n) (omega arith))
 
 -- ---- A loop that appends: what it appended so far
 

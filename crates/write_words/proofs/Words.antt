@@ -1,92 +1,126 @@
 -- The names and literals that program words hold, as this crate reads them, and the words without parts: one law for each way through a function. Assumes nothing.
-use mathlib.Core.Path.{_≡_, refl, _∙_, ap, sym}
+use mathlib.Core.Path.{_≡_, _∙_, ap, sym, subst}
 use mathlib.Core.List.{List, [], _∷_, _++_, append-nil}
-use Prim.Native.Nat.{ℕ, zero, suc, _+_, _-_, _*_, _≤_, _<_}
+use Prim.Native.Nat.{ℕ, min, _+_, _-_, _*_, _≤_, _<_}
+use native.Mathlib.Nat.{min-le-left, min-le-right, min-eq-left, min-eq-right}
+use native.Mathlib.Decide.{decLe}
 use native.Mathlib.Omega.{arith}
-use native.Mathlib.Numerals.{add-one}
 use lib.IntN.{ℤ}
-use lib.ListN.{length, getD, set, take, drop, length-set, length-drop}
-use lib.Seq.{length-take-le, getD-take, getD-drop, take-all, take-suc-set, ext-getD}
+use lib.ListN.{length, getD, take, drop, length-drop}
+use lib.Seq.{length-take-le, getD-take, getD-drop, take-all, ext-getD}
 use Rattle.framed.specs.Common.{bytes}
 use Rattle.framed.specs.Tokens.{Token}
 use Rattle.framed.specs.Values.{decimal}
 use Rattle.framed.specs.Writer.{token-bytes, word-bytes, led, one}
+use Rattle.splice.specs.Splice.{splice}
+use Rattle.splice.proofs.Laws.{splice-past, splice-front}
 use Rattle.words.specs.Words.{word}
 use Rattle.tables.specs.Fields.{names, name-length, name-byte, literal-length, literal-byte}
-use Rattle.trees.specs.Held.{list-from, name-bytes, literal-bytes, program-held}
+use Rattle.trees.specs.Held.{name-bytes, literal-bytes, program-held}
 use Rattle.trees.proofs.Held.{list-get, list-length, one-level-held}
 use Rattle.decimal.specs.Decimal.{Holds}
 use Rattle.texts.proofs.Inside.{literals-inside}
-use Rattle.write_words.specs.Appending.{CanAppend, Appended}
-use Rattle.write_words.specs.Words.{name-table, integer-text, string-text, AtName, AtLiteral, Begins}
+use Rattle.write_words.specs.Appending.{capped, CanAppend, Appended}
+use Rattle.write_words.specs.Words.{name-table, integer-text, string-text, AtName, AtLiteral, FitsBytes}
 use Rattle.write_words.proofs.Laws.{appended-then}
 
--- ---- copy_name
+-- ---- copy_words
 
-list-last : {A : Type 0} (f : ℕ → A) (n i : ℕ) → list-from f (suc n) i ≡ list-from f n i ++ (f (i + n) ∷ [])
-unfolding list-from
-list-last f zero i = let e : i ≡ i + 0 = omega arith in ap (λ (k : ℕ). f k ∷ []) e
-list-last {A} f (suc n) i =
-    let e : i + 1 + n ≡ i + suc n = omega arith in
-    ap (λ (l : List A). f i ∷ l) (list-last f n (i + 1)) ∙ ap (λ (k : ℕ). f i ∷ list-from f n (i + 1) ++ (f k ∷ [])) e
+pub word-fits : (m : List ℕ) (at : ℕ) (w : List ℕ) → FitsBytes m at w → (i b : ℕ) → i < length w → b ≡ getD w i 0 → b < 256
+word-fits m at w f i b lt e = let q = f .bytes i lt in omega arith
 
--- the first i bytes stand in the array
-pub record Copying (p : List ℕ) (k n : ℕ) (bs : List ℕ) (i : ℕ) : Type 0 where
-  pub size : length bs ≡ 16
-  pub most : n ≤ 16
-  pub inside : i ≤ n
-  pub are : take i bs ≡ list-from (name-byte p k) i 0
+-- ---- write_name
 
-module _ (p : List ℕ) (k n : ℕ) (at-name : AtName p k) (en : n ≡ name-length p k) where
-  pub copying-start : (bs : List ℕ) → length bs ≡ 16 → Copying p k n bs 0
-  unfolding list-from
-  copying-start bs s =
-      let q = at-name .program .entries .texts .name k (at-name .there) .most in
-      record { size = s; most = omega arith; inside = omega arith; are = refl }
+module _ (p : List ℕ) (k : ℕ) (at-name : AtName p k) where
+  abbrev its-bytes : List ℕ
+  its-bytes = getD (name-table p) k []
 
-  -- a byte of a name is a byte
-  pub copying-byte : (i b : ℕ) → i < n → b ≡ name-byte p k i → b < 256
-  copying-byte i b lt e = let q = at-name .program .entries .texts .name k (at-name .there) .bytes i (omega arith) in omega arith
+  bytes-are : its-bytes ≡ name-bytes p k
+  unfolding name-table
+  bytes-are = let e : 0 + k ≡ k = omega arith in list-get (name-bytes p) [] (names p) 0 k (at-name .there) ∙ ap (name-bytes p) e
 
-  pub copying-done : (bs : List ℕ) (i r : ℕ) → Copying p k n bs i → n ≤ i → r ≡ n → Begins bs r (getD (name-table p) k [])
-  unfolding name-table name-bytes
-  copying-done bs i r c le e =
-      let q = c .inside in
-      let s = c .most in
-      let ei : r ≡ i = omega arith in
-      let el : i ≡ name-length p k = omega arith in
-      let ek : 0 + k ≡ k = omega arith in
-      record {
-        size = c .size;
-        inside = omega arith;
-        are =
-            ap (λ (x : ℕ). take x bs) ei ∙ c .are ∙ ap (λ (x : ℕ). list-from (name-byte p k) x 0) el
-            ∙ sym (list-get (name-bytes p) [] (names p) 0 k (at-name .there) ∙ ap (name-bytes p) ek);
-      }
+  pub name-size : length its-bytes ≡ name-length p k
+  unfolding name-bytes
+  name-size = ap length bytes-are ∙ list-length (name-byte p k) (name-length p k) 0
 
-pub copying-again : (p : List ℕ) (k n : ℕ) (bs : List ℕ) (i j b : ℕ) → Copying p k n bs i → i < n → j ≡ i → b ≡ name-byte p k i → Copying p k n (set bs j b) (i + 1)
-copying-again p k n bs i j b c lt ej eb =
-    let s = c .size in
-    let m = c .most in
-    let e : 0 + i ≡ i = omega arith in
-    rw (ej, eb) (record {
-      size = length-set bs i (name-byte p k i) ∙ s;
-      most = m;
-      inside = omega arith;
-      are = rw (add-one i) (
-          take-suc-set bs i (name-byte p k i) (omega arith)
-          ∙ ap (λ (l : List ℕ). l ++ (name-byte p k i ∷ [])) (c .are)
-          ∙ ap (λ (x : ℕ). list-from (name-byte p k) i 0 ++ (name-byte p k x ∷ [])) (sym e)
-          ∙ sym (list-last (name-byte p k) i 0));
-    })
+  byte-there : (i : ℕ) → i < name-length p k → getD its-bytes i 0 ≡ name-byte p k i
+  unfolding name-bytes
+  byte-there i lt =
+      let e : 0 + i ≡ i = omega arith in
+      ap (λ (w : List ℕ). getD w i 0) bytes-are ∙ list-get (name-byte p k) 0 (name-length p k) 0 i lt ∙ ap (name-byte p k) e
+
+  -- where it stands in the program words
+  inside : 65 + 17 * k + name-length p k ≤ length p
+  inside =
+      let w = at-name .program in
+      let a = w .size in
+      let b = w .entries .limits .names-most in
+      let c = w .entries .texts .name k (at-name .there) .most in
+      let d = at-name .there in
+      omega arith
+
+  -- its first n bytes
+  read : (n : ℕ) → n ≤ name-length p k → take n (drop (65 + 17 * k) p) ≡ take n its-bytes
+  unfolding name-bytes name-byte word
+  read n le =
+      let q = inside in
+      let z = name-size in
+      let d = length-drop (65 + 17 * k) p in
+      let t : length (take n (drop (65 + 17 * k) p)) ≡ n = length-take-le n (drop (65 + 17 * k) p) (omega arith) in
+      ext-getD 0 (take n (drop (65 + 17 * k) p)) (take n its-bytes) (t ∙ sym (length-take-le n its-bytes (omega arith)))
+      (λ i lt.
+      getD-take n (drop (65 + 17 * k) p) i 0 (omega arith) ∙ getD-drop (65 + 17 * k) p i 0
+      ∙ sym (getD-take n its-bytes i 0 (omega arith) ∙ byte-there i (omega arith)))
+
+  -- the part that is copied: as much of it as there is space
+  module _ (m : List ℕ) (at w v n : ℕ) (ew : w ≡ k) (ev : v ≡ name-length p k) (en : n ≡ min v (length m - at)) where
+    pub name-end : 65 + 17 * w + n ≤ length p
+    name-end = let i = inside in omega (arith, min-le-left v (length m - at))
+
+    abbrev part : List ℕ
+    part = take (65 + 17 * w + n - (65 + 17 * w)) (drop (65 + 17 * w) p)
+
+    part-is : part ≡ take n its-bytes
+    part-is =
+        let e : 65 + 17 * w + n - (65 + 17 * w) ≡ n = omega arith in
+        ap (λ (i : ℕ). take i (drop (65 + 17 * w) p)) e ∙ ap (λ (i : ℕ). take n (drop (65 + 17 * i) p)) ew ∙ read n (omega (arith, min-le-left v (length m - at)))
+
+    pub name-fits : at < length m → FitsBytes m at part
+    name-fits lt =
+        let z = name-size in
+        let c = min-le-left v (length m - at) in
+        let d = min-le-right v (length m - at) in
+        let l : length part ≡ n = ap length part-is ∙ length-take-le n its-bytes (omega arith) in
+        record {
+          fits = omega arith;
+          bytes = λ i il.
+              let q = at-name .program .entries .texts .name k (at-name .there) .bytes i (omega arith) in
+              subst (λ (b : ℕ). b < 256)
+              (sym (ap (λ (x : List ℕ). getD x i 0) part-is ∙ getD-take n its-bytes i 0 (omega arith) ∙ byte-there i (omega arith))) q;
+        }
+
+    pub name-written : at < length m → (m′ : List ℕ) → m′ ≡ splice m at part → m′ ≡ splice m at its-bytes
+    name-written lt m′ e = e ∙ ap (splice m at) part-is ∙ all-or-front (decLe v (length m - at))
+      where
+        all-or-front : Dec (v ≤ length m - at) → splice m at (take n its-bytes) ≡ splice m at its-bytes
+        all-or-front (yes le) =
+            let z = name-size in
+            let x : n ≡ v = en ∙ min-eq-left le in
+            ap (splice m at) (take-all n its-bytes (omega arith))
+        all-or-front (no gt) =
+            let z = name-size in
+            let x : n ≡ length m - at = en ∙ min-eq-right (omega arith) in
+            ap (λ (i : ℕ). splice m at (take i its-bytes)) x ∙ splice-front m at its-bytes (omega arith) (omega arith)
+
+pub name-past : (m : List ℕ) (at : ℕ) (s : List ℕ) → length m ≤ at → m ≡ splice m at s
+name-past m at s le = sym (splice-past m at s le)
 
 -- ---- append_name
 
-pub name-length-is : {bytes bs : List ℕ} {n : ℕ} → Begins bytes n bs → n ≡ length (take n bytes)
-name-length-is {bytes} {bs} {n} b = let s = b .size in let i = b .inside in sym (length-take-le n bytes (omega arith))
-
-pub name-appended : {m m′ bytes bs : List ℕ} {limit at n r : ℕ} → Begins bytes n bs → Appended m limit at (take n bytes) m′ r → Appended m limit at bs m′ r
-name-appended b x = rw (b .are) at x
+pub name-appended : {p m m′ : List ℕ} {k limit at n v r : ℕ} → AtName p k → m′ ≡ splice m at (getD (name-table p) k []) → n ≡ name-length p k → v ≡ n →
+    r ≡ capped limit (at + v) → Appended m limit at (getD (name-table p) k []) m′ r
+name-appended {p} {k = k} {limit = limit} {at = at} a w en ev e =
+    record { buffer = w; next = e ∙ ap (λ (x : ℕ). capped limit (at + x)) (ev ∙ en ∙ sym (name-size p k a)) }
 
 -- ---- append_integer
 

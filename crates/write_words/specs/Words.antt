@@ -1,9 +1,8 @@
 -- Document 02, A1: the words of a text that hold no other words, over program words p and literal bytes l. What they are is `framed`'s Writer. Assumes nothing.
-use mathlib.Core.Path.{_≡_}
 use mathlib.Core.List.{List, [], _∷_}
 use Prim.Native.Nat.{ℕ, _+_, _≤_, _<_}
 use lib.IntN.{ℤ}
-use lib.ListN.{length, getD, take}
+use lib.ListN.{length, getD}
 use Rattle.framed.specs.Tokens.{Token, Fixed}
 use Rattle.framed.specs.Tree.{Written}
 use Rattle.framed.specs.Paths.{in-code, from-program}
@@ -61,8 +60,7 @@ pub record AtPath (p : List ℕ) (j n : ℕ) : Type 0 where
   pub program : WellFormed p literal-bytes
   pub there : j + n ≤ path-names p
 
--- the first n of sixteen bytes are the list
-pub record Begins (bytes : List ℕ) (n : ℕ) (bs : List ℕ) : Type 0 where
-  pub size : length bytes ≡ 16
-  pub inside : n ≤ 16
-  pub are : take n bytes ≡ bs
+-- words that are bytes, and fit into the buffer from a position on
+pub record FitsBytes (m : List ℕ) (at : ℕ) (w : List ℕ) : Type 0 where
+  pub fits : at + length w ≤ length m
+  pub bytes : (i : ℕ) → i < length w → getD w i 0 < 256

@@ -2,13 +2,30 @@
 // has the position limit + 1. Each function answers the position behind what it appended.
 ghost use mathlib.Core.Path.{_≡_};
 ghost use mathlib.Core.List.{[]};
-ghost use lib.ListN.{length, getD};
+ghost use Prim.Native.Nat.{min, _+_, _^_, _≤_, _<_};
+ghost use lib.ListN.{getD};
 ghost use Rattle.framed.specs.Writer.{common-prefix};
 ghost use Rattle.trees.specs.Trees.{path-list};
-ghost use Rattle.write_words.specs.Appending.{CanAppend, Appended};
+ghost use Rattle.splice.specs.Splice.{splice};
+ghost use Rattle.write_words.specs.Appending.{capped, CanAppend, Appended};
 ghost use Rattle.write_words.specs.Words.{name-table, integer-text, string-text, operator-text, self-path-text, program-path-text, names-text, climbs-text};
-ghost use Rattle.write_words.specs.Words.{AtName, AtLiteral, AtPath, Begins};
+ghost use Rattle.write_words.specs.Words.{AtName, AtLiteral, AtPath, FitsBytes};
 use words::wide;
+
+// The position behind n more bytes.
+fn moved(limit: usize, at: usize, n: usize) -> usize
+    requires { ⌜ (at ≤ limit + 1) × (limit < 2 ^ 63) ⌝ }
+    ensures { λ r. ⌜ r ≡ capped limit (at + n) ⌝ }
+{
+    if limit < at {
+        return at;
+    }
+    let past = limit + 1;
+    if limit - at < n {
+        return past;
+    }
+    at + n
+}
 
 // Bytes as they are.
 pub fn append(m: &mut [u8], limit: usize, at: usize, s: &[u8]) -> usize
@@ -16,28 +33,43 @@ pub fn append(m: &mut [u8], limit: usize, at: usize, s: &[u8]) -> usize
     ensures { λ r. ⌜ Appended (now (m .entry)) limit at (now (s .entry)) (now (m .exit)) r ⌝ }
 {
     splice::write(m, at, s);
-    if limit < at {
-        return at;
-    }
-    let past = limit + 1;
-    if limit - at < s.len() {
-        return past;
-    }
-    at + s.len()
+    moved(limit, at, s.len())
 }
 
-// The bytes of name k at the array's start: how many there are.
-fn copy_name(bytes: &mut [u8; 16], p: &[u32], k: u32) -> usize
-    requires { ⌜ AtName (now p) k × (length (now bytes) ≡ 16) ⌝ }
-    ensures { λ r. ⌜ Begins (now (bytes .exit)) r (getD (name-table (now (p .entry))) k []) ⌝ }
+// Words that are bytes and all fit.
+fn copy_words(m: &mut [u8], at: usize, w: &[u32])
+    requires { ⌜ FitsBytes (now m) at (now w) ⌝ }
+    ensures { λ _. ⌜ now (m .exit) ≡ splice (now (m .entry)) at (now (w .entry)) ⌝ }
 {
-    let n = tables::name_length(p, k);
-    let mut i = 0u32;
-    while i < n {
-        bytes[wide(i)] = tables::name_byte(p, k, i) as u8;
-        i += 1;
+    let mut j = 0usize;
+    while j < w.len() {
+        m[at + j] = w[j] as u8;
+        j += 1;
     }
-    wide(n)
+}
+
+// The smaller number.
+pub fn least(a: usize, b: usize) -> usize
+    ensures { λ r. ⌜ r ≡ min a b ⌝ }
+{
+    if a <= b {
+        return a;
+    }
+    b
+}
+
+// The bytes of name k, as far as they fit.
+fn write_name(p: &[u32], m: &mut [u8], at: usize, k: u32)
+    requires { ⌜ AtName (now p) k ⌝ }
+    ensures { λ _. ⌜ now (m .exit) ≡ splice (now (m .entry)) at (getD (name-table (now (p .entry))) k []) ⌝ }
+{
+    let size = m.len();
+    if size <= at {
+        return;
+    }
+    let from = 65 + 17 * wide(k);
+    let n = least(wide(tables::name_length(p, k)), size - at);
+    copy_words(m, at, &p[from..from + n]);
 }
 
 // Name k.
@@ -45,9 +77,8 @@ pub fn append_name(p: &[u32], m: &mut [u8], limit: usize, at: usize, k: u32) -> 
     requires { ⌜ AtName (now p) k × CanAppend (now m) limit at ⌝ }
     ensures { λ r. ⌜ Appended (now (m .entry)) limit at (getD (name-table (now (p .entry))) k []) (now (m .exit)) r ⌝ }
 {
-    let mut bytes = [0u8; 16];
-    let n = copy_name(&mut bytes, p, k);
-    append(m, limit, at, &bytes[..n])
+    write_name(p, m, at, k);
+    moved(limit, at, wide(tables::name_length(p, k)))
 }
 
 // An integer, with a space before it.

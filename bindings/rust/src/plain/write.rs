@@ -5,7 +5,7 @@
 use super::layout::{self, entry, expression_kind, instruction_kind, Literals, Program};
 use super::run::{decimal, DECIMAL_BYTES};
 use super::{whole, NOT_WHOLE};
-use crate::Refusal;
+use crate::{Refusal, SOURCE_BYTES};
 use std::mem;
 
 const SHORT_BUFFER: Refusal = Refusal(23);
@@ -21,10 +21,15 @@ pub fn write(
 ) -> Result<usize, Refusal> {
     let (program, literals) = whole::program(program, literals).ok_or(NOT_WHOLE)?;
     whole::state(program, heap, texts).ok_or(NOT_WHOLE)?;
-    // whole memories may have a text of more bytes than there are: so it is measured first, up to the buffer's length
-    let Room(left) = Writer::new(program, literals, Room(out.len())).text()?;
-    let length = out.len() - left;
-    Writer::new(program, literals, Rest(out)).text()?;
+    // whole memories may have a text of more bytes than there are: so it is written to an array first, and counted up to
+    // the buffer's length
+    let mut array = [0; SOURCE_BYTES];
+    let counted = Counted { array: &mut array, length: 0, limit: out.len() };
+    let Counted { length, .. } = Writer::new(program, literals, counted).text()?;
+    match array.get(..length) {
+        Some(text) => out[..length].copy_from_slice(text),
+        None => drop(Writer::new(program, literals, Rest(out)).text()?),
+    }
     Ok(length)
 }
 
@@ -35,17 +40,37 @@ trait Sink {
     fn put_words(&mut self, words: &[u32]) -> Result<(), Refusal>;
 }
 
-/// How many more bytes fit: nothing is written.
-struct Room(usize);
+/// How many bytes there are, up to a limit; those that fit into the array stand there.
+struct Counted<'a> {
+    array: &'a mut [u8],
+    length: usize,
+    limit: usize,
+}
 
-impl Sink for Room {
+impl Counted<'_> {
+    /// The place of so many more bytes, where the array has one.
+    fn more(&mut self, count: usize) -> Result<Option<&mut [u8]>, Refusal> {
+        let at = self.length;
+        self.length += count;
+        if self.length > self.limit {
+            return Err(SHORT_BUFFER);
+        }
+        Ok(self.array.get_mut(at..self.length))
+    }
+}
+
+impl Sink for Counted<'_> {
     fn put(&mut self, bytes: &[u8]) -> Result<(), Refusal> {
-        self.0 = self.0.checked_sub(bytes.len()).ok_or(SHORT_BUFFER)?;
+        if let Some(place) = self.more(bytes.len())? {
+            place.copy_from_slice(bytes);
+        }
         Ok(())
     }
 
     fn put_words(&mut self, words: &[u32]) -> Result<(), Refusal> {
-        self.0 = self.0.checked_sub(words.len()).ok_or(SHORT_BUFFER)?;
+        if let Some(place) = self.more(words.len())? {
+            place.iter_mut().zip(words).for_each(|(byte, &word)| *byte = word as u8);
+        }
         Ok(())
     }
 }

@@ -1,38 +1,23 @@
-use lib.ListN.{length}
-use Prim.Native.Nat.{_-_}
-use native.Mathlib.Omega.{arith}
 use borrow.Author.Needs.{needs}
-use Rattle.splice.proofs.Laws.{Writing, writing-start, writing-past, writing-full, writing-done, writing-again}
+use Rattle.splice.proofs.Laws.{write-past, front-size, front-fits, write-front}
 use Rattle.splice.proofs.write.Statement.{statement}
 use Rattle.splice.proofs.write.Tie as tie
 
-abbrev Inv-loop : tie.InvT-loop
-Inv-loop m₀ at s size space i₀ m i = Writing m₀ at s m i
+returns : tie.Need-returns
+returns c = search write-past
 
-abbrev μ-loop : tie.MeasureT-loop
-μ-loop m₀ at s size space i₀ m i = length s - i
+slice-aggregate-copy : tie.Need-slice-aggregate-copy
+slice-aggregate-copy c = search front-size
 
-returns : tie.Need-returns Inv-loop μ-loop
-returns c = search writing-past
+copy-requires-2 : tie.Need-copy-requires-2
+copy-requires-2 c κs = search front-fits
 
-loop-holds : tie.Need-loop-holds Inv-loop μ-loop
-loop-holds c = search writing-start
-
-returns-2 : tie.Need-returns-2 Inv-loop μ-loop
-returns-2 c = search writing-full
-
-loop-again : tie.Need-loop-again Inv-loop μ-loop
-loop-again c =
-    let a = c .before .before .before .before .before .args in
-    let l = c .before .before .before .loop in
-    writing-again (a .m .now) (a .at) (a .s .now) (l .m) (l .i) (l .inv) (omega arith)
-
-returns-3 : tie.Need-returns-3 Inv-loop μ-loop
-returns-3 c = search writing-done
+returns-3 : tie.Need-returns-3
+returns-3 c = search write-front
 
 pub write-spec : {M : Type 1} → statement M
 write-spec =
     tie.close
     (tie.spec
-    Inv-loop μ-loop returns loop-holds (λ c. omega arith) returns-2 (λ c. search needs) (λ c. omega arith) (λ c. omega arith)
-    (λ c. omega arith) (λ c. omega arith) loop-again (λ c. omega arith) returns-3)
+    returns (λ c κs. search needs) (λ c. search needs) (λ c. search needs) slice-aggregate-copy copy-requires-2 (λ c. search needs)
+    returns-3)
