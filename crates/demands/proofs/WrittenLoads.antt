@@ -18,14 +18,13 @@ use Rattle.framed.specs.Demands.{Memories, lengths, Loading, Writing, LentCall,
 use Rattle.framed.proofs.Accepted.{accepted}
 use Rattle.tables.specs.Fields.{frame-limit, text-limit}
 use Rattle.trees.specs.Held.{program-held}
-use Rattle.accepted.proofs.Accepted.{accepted-sources}
 use Rattle.load.specs.Load.{load-call, loaded}
 use Rattle.load.proofs.Laws.{call-loads, holds-start}
 use Rattle.write.specs.Write.{writing, text-written, write-call}
 use Rattle.write.proofs.Laws.{call-writes, call-fits, too-long}
 use Rattle.write.proofs.Answers.{in-front, call-told}
 use Rattle.write_loads.specs.Theorems.{TextLoads}
-use Rattle.write_loads.proofs.Loads.{accepted-text-loads}
+use Rattle.write_loads.proofs.Loads.{accepted-text-loads, text-short}
 use Rattle.lent_machine.specs.Machine.{formed}
 use Rattle.lent_machine.proofs.Calls.{follows-calls}
 use Rattle.demands.specs.Machine.{write-lent, other-calls, machine}
@@ -110,7 +109,7 @@ module _ (m : Memories) (source : List ℕ) (F T : ℕ) (q : Program) (z : refus
   unfolding memories-after
   at-once = after []
 
-  its-text : TextLoads (lengths m) source F T q
+  its-text : TextLoads F T q
   its-text = accepted-text-loads (lengths m) source F T q z e
 
 -- what is said of the text bs, loaded into k: m₀ are the memories that the first load left, m₁ those that were written
@@ -157,8 +156,7 @@ written-loads = record {
       loads-again m source F T cs buffer n k (a .0) z (a .1) answer few right;
   always-fits = λ m source F T cs buffer z room.
       let a = accepted (lengths m) source F T z in
-      let s = its-text m source F T (a .0) z (a .1) .short in
-      let b = accepted-sources (lengths m) source F T (a .0) z (a .1) .arguments .short in
+      let s = text-short (lengths m) source F T (a .0) z (a .1) .1 in
       (length (text (a .0)), ap (λ (x : Writing). x .answer) (fits (after m source F T (a .0) z (a .1) cs) buffer (omega arith)));
   never-not-well-formed = λ m source F T cs buffer z refused.
       let a = accepted (lengths m) source F T z in

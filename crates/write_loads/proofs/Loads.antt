@@ -44,7 +44,7 @@ use Rattle.write_paths.proofs.Resolved.{same-resolved, same-start}
 use Rattle.write_paths.proofs.Meaning.{same-meaning}
 use Rattle.write_paths.proofs.Fewer.{fewer-symbols}
 use Rattle.write_paths.proofs.Words.{words-spelled, program-formed}
-use Rattle.write_loads.specs.Theorems.{TextLoads, AcceptedTextLoads}
+use Rattle.write_loads.specs.Theorems.{TextLoads, AcceptedTextLoads, TextShort}
 use Rattle.write_loads.proofs.Lengths.{with-space, parted-short, read-twice}
 use Rattle.write_loads.proofs.Back.{AllBack, words-back, all-read, spelled-back}
 
@@ -167,10 +167,20 @@ accepted-text-loads m source F T p z e =
     let read = tokens-agree class source (s .list) .0 (s .list-is) in
     let tree = parse-agrees (symbols (s .list)) (s .tree) .0 (s .tree-is) in
     let meaning = meaning-of (tokens class source) F (s .list) (s .tree) (s .list-is) (s .tree-is) (source-of m source F T z) in
-    subst (TextLoads m source F T) (s .program-is)
+    subst (TextLoads F T) (s .program-is)
     (record {
       in-tokens = in-tokens source F (s .list) (s .tree) (p .start) read tree (s .start-is);
       same-program = same-program source F (s .list) (s .tree) (p .start) read tree (s .start-is);
       accepted = λ k r n. accepted-with k _ F T (arguments-accepted m k source _ F T (a .arguments) r n) (source-accepted source F (s .list) (s .tree) (p .start) read tree (s .start-is) (s .nesting) meaning);
-      short = short source F (s .list) (s .tree) (p .start) read tree (s .start-is);
     })
+
+pub text-short : TextShort
+text-short m source F T p z e =
+    let a = accepted-sources m source F T p z e in
+    let s = a .source-fits in
+    let read = tokens-agree class source (s .list) .0 (s .list-is) in
+    let tree = parse-agrees (symbols (s .list)) (s .tree) .0 (s .tree-is) in
+    let few : length (text p) < 2 * length source =
+    subst (λ (q : Program). length (text q) < 2 * length source) (s .program-is) (short source F (s .list) (s .tree) (p .start) read tree (s .start-is)) in
+    let most = a .arguments .short in
+    (few, omega arith)

@@ -13,12 +13,15 @@ use Rattle.framed.specs.Writer.{text, text-tokens}
 
 -- It is read in its tokens and has the same program: names, literals, codes, instructions, slots and start. Where it has at most 16,384 bytes it is accepted too,
 -- with memories of the right lengths
-pub record TextLoads (m : Lengths) (source : List ℕ) (F T : ℕ) (p : Program) : Type 0 where
+pub record TextLoads (F T : ℕ) (p : Program) : Type 0 where
   pub in-tokens : tokens class (text p) ≡ some (text-tokens p)
   pub same-program : program (text p) ≡ some p
   pub accepted : (k : Lengths) → right-lengths k ≡ true → length (text p) ≤ 16384 → refusal k (text p) F T ≡ 0
-  -- it has fewer than twice the bytes of the source, so at most 32,767
-  pub short : length (text p) < 2 * length source
 
 abbrev pub AcceptedTextLoads : Type 0
-AcceptedTextLoads = (m : Lengths) (source : List ℕ) (F T : ℕ) (p : Program) → refusal m source F T ≡ 0 → program source ≡ some p → TextLoads m source F T p
+AcceptedTextLoads = (m : Lengths) (source : List ℕ) (F T : ℕ) (p : Program) → refusal m source F T ≡ 0 → program source ≡ some p → TextLoads F T p
+
+-- it has fewer than twice the bytes of the source, so at most 32,767: a buffer of so many always does
+abbrev pub TextShort : Type 0
+TextShort = (m : Lengths) (source : List ℕ) (F T : ℕ) (p : Program) → refusal m source F T ≡ 0 → program source ≡ some p →
+    (length (text p) < 2 * length source) × (length (text p) ≤ 32767)
