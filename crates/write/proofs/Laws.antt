@@ -86,13 +86,15 @@ write-is-text p h l t buffer =
 pub own-size : (limit size : ℕ) (own : List ℕ) → size ≡ min limit (length own) → size ≡ length (take size own)
 own-size limit size own es = sym (length-take-le size own (let a = min-le-right limit (length own) in omega arith))
 
+pub can-write : (p l m : List ℕ) (limit : ℕ) (out : List ℕ) → CanWriteThrough p l out → limit ≡ length out → length m ≤ limit → CanWrite p l m limit 0
+can-write p l m limit out c is le = let s = c .small in record { program = c .program; can = record { inside = le; position = omega arith; small = omega arith } }
+
 pub can-measure : (p l own : List ℕ) (limit size : ℕ) (out : List ℕ) → CanWriteThrough p l out → limit ≡ length out → size ≡ min limit (length own) →
     CanWrite p l (take size own) limit 0
 can-measure p l own limit size out c is es =
-    let s = c .small in
     let a = min-le-left limit (length own) in
     let b = own-size limit size own es in
-    record { program = c .program; can = record { inside = omega arith; position = omega arith; small = omega arith } }
+    can-write p l (take size own) limit out c is (omega arith)
 
 -- n bytes were counted, up to one more than the buffer has; the first of them, up to `size`, stand in the other array
 module _ (bs out own m : List ℕ) (limit size n : ℕ) (is : limit ≡ length out) (es : size ≡ min limit (length own)) (first : Appended (take size own) limit 0 bs m n) where
@@ -145,9 +147,6 @@ module _ (bs out own m : List ℕ) (limit size n : ℕ) (is : limit ≡ length o
 
   pub through-copied : n ≤ limit → n ≤ size → {out′ : List ℕ} → out′ ≡ splice out 0 (take n (m ++ drop size own)) → text-written bs out ≡ writing (WriteAnswer.Written n) out′
   through-copied le inside e = written le (e ∙ ap (splice out 0) (front-is le inside))
-
-pub can-write : (p l m : List ℕ) (limit : ℕ) (out : List ℕ) → CanWriteThrough p l out → limit ≡ length out → length m ≤ limit → CanWrite p l m limit 0
-can-write p l m limit out c is le = let s = c .small in record { program = c .program; can = record { inside = le; position = omega arith; small = omega arith } }
 
 -- ---- The ways through `write`
 

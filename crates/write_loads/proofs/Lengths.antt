@@ -1,6 +1,5 @@
 -- A text with one space between words has fewer bytes than its tokens with one byte more each; and those are at most twice the bytes that the tokens were read from.
 -- Assumes nothing.
-use mathlib.Core.Path.{_≡_}
 use mathlib.Core.List.{List, [], _∷_, _++_}
 use Prim.Native.Nat.{ℕ, suc, _+_, _*_, _≤_, _<_}
 use native.Mathlib.Omega.{arith}
@@ -10,6 +9,7 @@ use Rattle.framed.specs.Bytes.{Classes}
 use Rattle.framed.specs.Tokens.{Token, Fixed, Tokens⊢}
 use Rattle.framed.specs.Writer.{Word, token-bytes, word-bytes, led, parted, joined-words}
 use Rattle.framed.proofs.TokensExact.{tokens-fewer}
+use Rattle.shapes.proofs.Lists.{total-append}
 use Rattle.token_spelling.specs.Spelling.{Lawful}
 use Rattle.token_spelling.proofs.ReadBack.{read-short}
 use Rattle.write_paths.specs.Rewriting.{WordFormed, WordsFormed}
@@ -17,11 +17,6 @@ use Rattle.write_paths.specs.Rewriting.{WordFormed, WordsFormed}
 -- the bytes of a token and one more
 abbrev pub with-space : Token → ℕ
 with-space t = suc (length (token-bytes t))
-
-total-append : (ts us : List Token) → total with-space (ts ++ us) ≡ total with-space ts + total with-space us
-unfolding total
-total-append [] us = omega arith
-total-append (t ∷ ts) us = let i = total-append ts us in omega arith
 
 word-short : {w : Word} → WordFormed w → suc (length (word-bytes w)) ≤ total with-space w
 unfolding total word-bytes
@@ -39,7 +34,7 @@ led-short (WordsFormed.more {w} {ws} f fs) =
     let i = led-short fs in
     let j = word-short f in
     let e = length-append (word-bytes w) (led ws) in
-    let g = total-append w (joined-words ws) in
+    let g = total-append with-space w (joined-words ws) in
     omega arith
 
 pub parted-short : {w : Word} {ws : List Word} → WordsFormed (w ∷ ws) → length (parted (w ∷ ws)) < total with-space (joined-words (w ∷ ws))
@@ -48,7 +43,7 @@ parted-short (WordsFormed.more {w} {ws} f fs) =
     let i = led-short fs in
     let j = word-short f in
     let e = length-append (word-bytes w) (led ws) in
-    let g = total-append w (joined-words ws) in
+    let g = total-append with-space w (joined-words ws) in
     omega arith
 
 -- ---- Tokens that were read
