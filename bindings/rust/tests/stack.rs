@@ -210,7 +210,7 @@ fn file(name: &str) -> String {
     std::fs::read_to_string(Path::new(env!("CARGO_MANIFEST_DIR")).join("../..").join(name)).unwrap()
 }
 
-/// The numbers of a text, as `15,745`.
+/// The numbers of a text, as `15,825`.
 fn numbers(text: &str) -> Vec<usize> {
     text.split_whitespace().filter_map(|word| word.replace(',', "").parse().ok()).collect()
 }

@@ -1,41 +1,19 @@
--- The loop that writes digits from the last to the first, and the sign. Assumes nothing.
-use Prim.Native.Nat.{ℕ, zero, suc, _+_, _-_, _*_, _/_, _%_, _^_, _≤_, _<_}
+-- The loop that writes digits from the last to the first, their slice, the sign, and how many bytes they are. Assumes nothing.
+use Prim.Native.Nat.{ℕ, suc, _+_, _-_, _*_, _/_, _%_, _^_, _≤_, _<_}
 use mathlib.Core.Path.{_≡_, _∙_, ap, sym}
 use mathlib.Core.List.{List, [], _∷_, _++_, append-nil}
-use mathlib.Core.Bool.{true, false}
 use native.Mathlib.Omega.{arith}
 use native.Mathlib.Nat.{pow-suc}
-use native.Mathlib.Decide.{decLe, ℕ-discrete}
-use lib.ListN.{length, set, drop, length-set}
-use lib.Seq.{drop-cons, drop-length, drop-set-lt, getD-set-same, append-snoc}
+use native.Mathlib.Decide.{ℕ-discrete}
+use lib.ListN.{length, set, take, drop, length-set, length-drop}
+use lib.Seq.{take-all, drop-cons, drop-length, drop-set-lt, getD-set-same, append-snoc}
 use lib.IntN.{ℤ, pos, negsuc}
 use mir.Syntax.{w32}
 use mir.Val.{SFits}
-use borrow.Author.Tests.{lt-ltb, le-ltb}
 use Rattle.ints.specs.Ints.{word-of}
 use Rattle.framed.specs.Values.{digits-within, decimal}
+use Rattle.framed.proofs.Digits.{digits-one, digits-more, digits-bound}
 use Rattle.decimal.specs.Decimal.{Holds}
-
--- ---- The digits of a number
-
-digits-one : (b n : ℕ) → n < 10 → digits-within (suc b) n ≡ (48 + n) ∷ []
-unfolding digits-within
-digits-one b n lt = ap (λ t. elim t [ true ↦ (48 + n) ∷ [] | false ↦ digits-within b (n / 10) ++ ((48 + n % 10) ∷ []) ]) (lt-ltb n 10 lt)
-
-digits-more : (b n : ℕ) → 10 ≤ n → digits-within (suc b) n ≡ digits-within b (n / 10) ++ ((48 + n % 10) ∷ [])
-unfolding digits-within
-digits-more b n le = ap (λ t. elim t [ true ↦ (48 + n) ∷ [] | false ↦ digits-within b (n / 10) ++ ((48 + n % 10) ∷ []) ]) (le-ltb n 10 le)
-
--- every bound above the number gives the same digits
-digits-bound : (a b n : ℕ) → n < a → n < b → digits-within a n ≡ digits-within b n
-digits-bound zero b n la lb = absurd (omega arith)
-digits-bound (suc a) zero n la lb = absurd (omega arith)
-digits-bound (suc a) (suc b) n la lb = go (decLe 10 n) (digits-bound a b (n / 10))
-  where
-    go : Dec (10 ≤ n) → (n / 10 < a → n / 10 < b → digits-within a (n / 10) ≡ digits-within b (n / 10)) → digits-within (suc a) n ≡ digits-within (suc b) n
-    go (yes le) ih =
-        digits-more a n le ∙ ap (λ (ds : List ℕ). ds ++ ((48 + n % 10) ∷ [])) (ih (omega arith) (omega arith)) ∙ sym (digits-more b n le)
-    go (no lt) ih = digits-one a n (omega arith) ∙ sym (digits-one b n (omega arith))
 
 -- ---- digits: what is left of the number, before what has been written, gives the whole
 
@@ -117,20 +95,42 @@ module _ (n : ℕ) (bytes : List ℕ) (start m : ℕ) (a : Writing n bytes start
             ∙ a .rest;
       }
 
--- ---- decimal: a number that is not negative is its word, and a negative one is what its word wants to 2 ^ 32
+-- ---- The slice of the array from there on is the list
+
+pub held-bytes : (room : ℕ) (bytes : List ℕ) (start : ℕ) (bs : List ℕ) → Holds room bytes start bs → take (11 - start) (drop start bytes) ≡ bs
+held-bytes room bytes start bs a =
+    let s = a .size in
+    let i = a .inside in
+    let l = length-drop start bytes in
+    take-all (11 - start) (drop start bytes) (omega arith) ∙ a .are
+
+-- ---- decimal and size: a number that is not negative is its word, and a negative one is what its word wants to 2 ^ 32
 
 module _ (z : ℤ) (f : SFits w32 z) (w : ℕ) (ew : w ≡ word-of z) where
-  pub decimal-up : w < 2147483648 → (bytes : List ℕ) (start : ℕ) → Holds 1 bytes start (digits-within (suc w) w) → Holds 0 bytes start (decimal z)
+  up-is : w < 2147483648 → digits-within (suc w) w ≡ decimal z
   unfolding decimal word-of
-  decimal-up lt bytes start h = record { size = h .size; before = omega arith; inside = h .inside; are = h .are ∙ go z f ew }
+  up-is lt = go z f ew
     where
       go : (y : ℤ) → SFits w32 y → w ≡ word-of y → digits-within (suc w) w ≡ decimal y
       go (pos n) g e = ap (λ (k : ℕ). digits-within (suc k) k) e
       go (negsuc n) g e = let l : n < 2 ^ 31 = g .sfits in let q : w ≡ 2 ^ 32 - suc n = e in absurd (omega arith)
 
+  down-is : 2147483648 ≤ w → 45 ∷ digits-within (suc (4294967295 - w + 1)) (4294967295 - w + 1) ≡ decimal z
+  unfolding decimal word-of
+  down-is le = go z f ew
+    where
+      go : (y : ℤ) → SFits w32 y → w ≡ word-of y → 45 ∷ digits-within (suc (4294967295 - w + 1)) (4294967295 - w + 1) ≡ decimal y
+      go (pos n) g e = let l : n < 2 ^ 31 = g .sfits in let q : w ≡ n = e in absurd (omega arith)
+      go (negsuc n) g e =
+          let l : n < 2 ^ 31 = g .sfits in
+          let q : w ≡ 2 ^ 32 - suc n = e in
+          ap (λ (k : ℕ). 45 ∷ digits-within (suc k) k) {x = 4294967295 - w + 1} {y = suc n} (omega arith)
+
+  pub decimal-up : w < 2147483648 → (bytes : List ℕ) (start : ℕ) → Holds 1 bytes start (digits-within (suc w) w) → Holds 0 bytes start (decimal z)
+  decimal-up lt bytes start h = record { size = h .size; before = omega arith; inside = h .inside; are = h .are ∙ up-is lt }
+
   pub decimal-down : 2147483648 ≤ w → (bytes : List ℕ) (start : ℕ) → Holds 1 bytes start (digits-within (suc (4294967295 - w + 1)) (4294967295 - w + 1))
       → Holds 0 (set bytes (start - 1) 45) (start - 1) (decimal z)
-  unfolding decimal word-of
   decimal-down le bytes start h =
       let s = h .size in
       let b = h .before in
@@ -143,9 +143,11 @@ module _ (z : ℤ) (f : SFits w32 z) (w : ℕ) (ew : w ≡ word-of z) where
             drop-set bytes (start - 1) 45 (omega arith)
             ∙ ap (λ (k : ℕ). 45 ∷ drop k bytes) {x = suc (start - 1)} {y = start} (omega arith)
             ∙ ap (λ (ds : List ℕ). 45 ∷ ds) (h .are)
-            ∙ go z f ew;
+            ∙ down-is le;
       }
-    where
-      go : (y : ℤ) → SFits w32 y → w ≡ word-of y → 45 ∷ digits-within (suc (4294967295 - w + 1)) (4294967295 - w + 1) ≡ decimal y
-      go (pos n) g e = let l : n < 2 ^ 31 = g .sfits in let q : w ≡ n = e in absurd (omega arith)
-      go (negsuc n) g e = ap (λ (k : ℕ). 45 ∷ digits-within (suc k) k) {x = 4294967295 - w + 1} {y = suc n} (let l : n < 2 ^ 31 = g .sfits in let q : w ≡ 2 ^ 32 - suc n = e in omega arith)
+
+  pub size-up : (r : ℕ) → w < 2147483648 → r ≡ length (digits-within (suc w) w) → r ≡ length (decimal z)
+  size-up r lt e = e ∙ ap length (up-is lt)
+
+  pub size-down : (r : ℕ) → 2147483648 ≤ w → r ≡ length (digits-within (suc (4294967295 - w + 1)) (4294967295 - w + 1)) → r + 1 ≡ length (decimal z)
+  size-down r le e = let d = ap length (down-is le) in omega arith

@@ -2,7 +2,6 @@
 // of some values, and writes for each place of the file `places` which of these leave the memories well-formed: 1 yes, 0 no, - where the
 // value is no byte. A line of `made` is a memory (0 program words, 1 heap words, 2 literal bytes, 3 text bytes), a place and a value.
 ghost use Rattle.io.specs.Counts.{Counts};
-use libc::STDOUT_FILENO;
 
 const VALUES: [u32; 22] = [
     0,
@@ -28,10 +27,6 @@ const VALUES: [u32; 22] = [
     1025,
     4294967295,
 ];
-
-fn write(text: &[u8]) {
-    io::write_all(STDOUT_FILENO, text);
-}
 
 // A number, and the place after the byte behind it.
 struct Number {
@@ -118,43 +113,43 @@ fn well_formed_with(made: &[u8], memory: u32, place: u32, value: u32) -> bool {
 fn write_verdict(made: &[u8], memory: u32, place: u32, value: u32) {
     if 1 < memory {
         if 255 < value {
-            write(b"-");
+            output::put(b"-");
             return;
         }
     }
     if well_formed_with(made, memory, place, value) {
-        write(b"1");
+        output::put(b"1");
         return;
     }
-    write(b"0");
+    output::put(b"0");
 }
 
 fn write_memory(memory: u32) {
     if memory == 0 {
-        write(b"program ");
+        output::put(b"program ");
         return;
     }
     if memory == 1 {
-        write(b"heap ");
+        output::put(b"heap ");
         return;
     }
     if memory == 2 {
-        write(b"literal ");
+        output::put(b"literal ");
         return;
     }
-    write(b"text ");
+    output::put(b"text ");
 }
 
 fn write_place(made: &[u8], memory: u32, place: u32) {
     write_memory(memory);
-    io::print_decimal(STDOUT_FILENO, place as u64);
-    write(b" ");
+    output::put_number(place);
+    output::put(b" ");
     let mut i: usize = 0;
     while i < 22 {
         write_verdict(made, memory, place, VALUES[i]);
         i += 1;
     }
-    write(b"\n");
+    output::put(b"\n");
 }
 
 fn write_places(made: &[u8], places: &[u8]) {
@@ -189,8 +184,8 @@ fn main() {
     let n = read_file(b"made", &mut made);
     let mut places = io::large_buffer();
     let k = read_file(b"places", &mut places);
-    write(b"as made ");
+    output::put(b"as made ");
     write_verdict(&made[..n], 0, 16383, 0);
-    write(b"\n");
+    output::put(b"\n");
     write_places(&made[..n], &places[..k]);
 }

@@ -1,10 +1,9 @@
 // For each source that the file `index` names: the name, and its printed run.
 use input::Input;
-use libc::STDOUT_FILENO;
 
 fn print_run(source: &[u8]) {
     let mut out = [0u8; 4140];
-    io::write_all(STDOUT_FILENO, printed_run::print(source, &mut out));
+    output::put(printed_run::print(source, &mut out));
 }
 
 fn run_file(name: &[u8]) {
@@ -13,8 +12,8 @@ fn run_file(name: &[u8]) {
         os::fail(name);
         return;
     };
-    io::write_all(STDOUT_FILENO, name);
-    io::write_all(STDOUT_FILENO, b"\n");
+    output::put(name);
+    output::put(b"\n");
     print_run(printing::front(&source, n));
 }
 

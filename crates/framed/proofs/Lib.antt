@@ -1,5 +1,6 @@
 pub mod General
 pub mod Lists
+pub mod Digits
 pub mod TokensExact
 pub mod ParseExact
 pub mod ParseFuel

@@ -1,5 +1,5 @@
 -- Facts about places in lists, and about tests and counts over them. Nothing here is about Framed. Assumes nothing.
-use mathlib.Core.Path.{_≡_, refl, sym, subst}
+use mathlib.Core.Path.{_≡_, refl, sym, _∙_, subst}
 use mathlib.Core.Bool.{Bool, true, false, _&&_, _||_, or-true, false≢true}
 use mathlib.Core.List.{List, [], _∷_, _++_}
 use mathlib.Core.Option.{some}
@@ -127,3 +127,14 @@ same-equal (x ∷ v) (y ∷ w) e = go (eqb x y) refl e (λ f. same-equal v w f)
     go : (t : Bool) → eqb x y ≡ t → (t && same v w) ≡ true → (same v w ≡ true → v ≡ w) → (x ∷ v) ≡ (y ∷ w)
     go true p q k = let h = eqb-true x y p in let i = k q in cc
     go false p q k = absurd (false≢true q)
+
+-- compared the other way round
+pub same-turned : (v w : List ℕ) → same v w ≡ true → same w v ≡ true
+same-turned v w e = subst (λ (u : List ℕ). same u v ≡ true) (same-equal v w e) (same-self v)
+
+pub not-turned : (v w : List ℕ) → same v w ≡ false → same w v ≡ false
+not-turned v w e = go (same w v) refl
+  where
+    go : (t : Bool) → same w v ≡ t → t ≡ false
+    go true q = sym (same-turned w v q) ∙ e
+    go false q = refl

@@ -1,7 +1,6 @@
 // Reads a source from standard input, to its end or one byte past the longest, and prints its run. Where it cannot be read, nothing is printed.
 use input::Input;
 use libc::STDIN_FILENO;
-use libc::STDOUT_FILENO;
 
 fn main() {
     let mut source = [0u8; 16385];
@@ -10,8 +9,5 @@ fn main() {
         return;
     };
     let mut out = [0u8; 4140];
-    io::write_all(
-        STDOUT_FILENO,
-        printed_run::print(printing::front(&source, n), &mut out),
-    );
+    output::put(printed_run::print(printing::front(&source, n), &mut out));
 }

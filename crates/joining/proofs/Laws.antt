@@ -1,11 +1,11 @@
 -- One law for each way through the functions of this crate. Assumes nothing.
-use Prim.Native.Nat.{ℕ, _+_, _*_, _≤_, _<_}
+use Prim.Native.Nat.{ℕ, _+_, _≤_, _<_}
 use mathlib.Core.Path.{_≡_, _∙_, ap, sym}
 use mathlib.Core.Bool.{Bool, true, false, not}
 use mathlib.Core.List.{List}
 use native.Mathlib.Omega.{arith}
 use lib.ListN.{length, take, drop, length-append}
-use lib.Seq.{take-at, length-take-le}
+use lib.Seq.{take-at}
 use borrow.Author.Tests.{lt-ltb, le-ltb}
 use Rattle.framed.specs.declared.Value.{Value}
 use Rattle.framed.specs.Values.{shown}
@@ -15,7 +15,7 @@ use Rattle.splice.proofs.Laws.{splice-append, splice-fits}
 use Rattle.texts.specs.Literals.{literals-held}
 use Rattle.shown.specs.Shown.{shown-size}
 use Rattle.shown.proofs.Laws.{shown-size-is}
-use Rattle.joining.specs.Joining.{joinable, join-end, join-bytes, join-written}
+use Rattle.joining.specs.Joining.{joinable, join-end, join-bytes}
 
 -- join_end
 module _ (p h : List ℕ) (v w : Value) (b : Bool) (eb : b ≡ joinable v) where
@@ -45,31 +45,24 @@ join-length p l h t v w =
     ∙ ap (λ (n : ℕ). shown-size p h v + n) (shown-size-is p l h t w)
 
 -- fill_join
-pub filled : (p l h t : List ℕ) (v w : Value) (m m′ m″ : List ℕ) (n k : ℕ) → m′ ≡ splice m 0 (shown (literals-held p l) (texts-held h t) v)
-    → n ≡ shown-size p h v → k ≡ n → m″ ≡ splice m′ k (shown (literals-held p l) (texts-held h t) w)
-    → m″ ≡ splice m 0 (join-bytes (literals-held p l) (texts-held h t) v w)
-unfolding join-bytes
-filled p l h t v w m m′ m″ n k e en ek q =
-    q ∙ ap (λ (x : List ℕ). splice x k (shown (literals-held p l) (texts-held h t) w)) e
-    ∙ ap (λ (j : ℕ). splice (splice m 0 (shown (literals-held p l) (texts-held h t) v)) j (shown (literals-held p l) (texts-held h t) w)) (let s = shown-size-is p l h t v in let z : k ≡ 0 + length (shown (literals-held p l) (texts-held h t) v) = omega arith in z)
-    ∙ sym (splice-append m 0 (shown (literals-held p l) (texts-held h t) v) (shown (literals-held p l) (texts-held h t) w))
+module _ (p l h t : List ℕ) (v w : Value) (a : ℕ) (ea : a ≡ shown-size p h v) where
+  pub filled : (m m′ m″ : List ℕ) → m′ ≡ splice m 0 (shown (literals-held p l) (texts-held h t) v)
+      → m″ ≡ splice m′ a (shown (literals-held p l) (texts-held h t) w) → m″ ≡ splice m 0 (join-bytes (literals-held p l) (texts-held h t) v w)
+  unfolding join-bytes
+  filled m m′ m″ e q =
+      let s = shown-size-is p l h t v in
+      let z : a ≡ 0 + length (shown (literals-held p l) (texts-held h t) v) = omega arith in
+      q ∙ ap (λ (x : List ℕ). splice x a (shown (literals-held p l) (texts-held h t) w)) e
+      ∙ ap (λ (j : ℕ). splice (splice m 0 (shown (literals-held p l) (texts-held h t) v)) j (shown (literals-held p l) (texts-held h t) w)) z
+      ∙ sym (splice-append m 0 (shown (literals-held p l) (texts-held h t) v) (shown (literals-held p l) (texts-held h t) w))
 
--- write_join
-pub taken : (n : ℕ) (bs : List ℕ) → length bs ≡ 64 → n ≤ 64 → n ≡ length (take n bs)
-taken n bs s le = sym (length-take-le n bs (omega arith))
+  pub filled-size : (b : ℕ) → b ≡ shown-size p h w → a + b ≡ shown-size p h v + shown-size p h w
+  filled-size b eb = rw (ea, eb)
 
-module _ (p l h t : List ℕ) (k : ℕ) (v w : Value) (m i : ℕ) (em : m ≡ shown-size p h v + shown-size p h w) (ei : i ≡ m) where
-  pub join-long : 64 < i → t ≡ join-written p l h t k v w
-  unfolding join-written
-  join-long lt = rw (lt-ltb 64 (shown-size p h v + shown-size p h w) (omega arith))
-
-  module _ (le : i ≤ 64) (buf buf′ : List ℕ) (size : length buf ≡ 64) (eb : buf′ ≡ splice buf 0 (join-bytes (literals-held p l) (texts-held h t) v w)) where
-    front : take i buf′ ≡ join-bytes (literals-held p l) (texts-held h t) v w
-    front =
-        let n = join-length p l h t v w in
-        rw (eb, splice-fits buf 0 (join-bytes (literals-held p l) (texts-held h t) v w) (omega arith))
-        (take-at (join-bytes (literals-held p l) (texts-held h t) v w) (drop (0 + length (join-bytes (literals-held p l) (texts-held h t) v w)) buf) i (omega arith))
-
-    pub join-short : (t′ : List ℕ) (a : ℕ) → a ≡ k → t′ ≡ splice t (64 * a) (take i buf′) → t′ ≡ join-written p l h t k v w
-    unfolding join-written
-    join-short t′ a ea e = rw (le-ltb 64 (shown-size p h v + shown-size p h w) (omega arith), e, ea, front)
+-- the front of a buffer of 64 bytes that was filled, where they all fit
+pub filled-front : (p l h t : List ℕ) (v w : Value) (n : ℕ) → n ≡ shown-size p h v + shown-size p h w → n ≤ 64
+    → (m m′ : List ℕ) → length m ≡ 64 → m′ ≡ splice m 0 (join-bytes (literals-held p l) (texts-held h t) v w) → take n m′ ≡ join-bytes (literals-held p l) (texts-held h t) v w
+filled-front p l h t v w n en le m m′ size e =
+    let j = join-length p l h t v w in
+    rw (e, splice-fits m 0 (join-bytes (literals-held p l) (texts-held h t) v w) (omega arith))
+    (take-at (join-bytes (literals-held p l) (texts-held h t) v w) (drop (0 + length (join-bytes (literals-held p l) (texts-held h t) v w)) m) n (omega arith))

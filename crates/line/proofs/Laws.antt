@@ -1,51 +1,73 @@
 -- One law for each way through the functions of this crate. Assumes nothing.
 use Prim.Native.Nat.{ℕ, _+_, _-_, _≤_, _<_}
-use mathlib.Core.Path.{_≡_, refl, _∙_, ap, sym}
-use mathlib.Core.List.{List, [], _∷_}
+use mathlib.Core.Path.{_≡_, _∙_, ap, sym}
+use mathlib.Core.List.{List, [], _∷_, _++_}
 use native.Mathlib.Omega.{arith}
-use lib.ListN.{length, length-append}
+use lib.IntN.{ℤ}
+use lib.ListN.{length, take, drop, length-append}
+use borrow.Author.Tests.{le-leb, lt-leb}
 use Rattle.words.specs.Words.{set-word}
+use Rattle.framed.specs.declared.Text.{Text}
 use Rattle.framed.specs.declared.Value.{Value}
-use Rattle.framed.specs.Values.{shown}
+use Rattle.framed.specs.Common.{bytes}
+use Rattle.framed.specs.Values.{decimal, text-bytes, shown}
+use Rattle.decimal.specs.Decimal.{Holds}
+use Rattle.decimal.proofs.Laws.{held-bytes}
 use Rattle.splice.specs.Splice.{splice}
-use Rattle.splice.proofs.Laws.{splice-length, splice-past, splice-append}
-use Rattle.heap.specs.Held.{texts-held}
-use Rattle.texts.specs.Literals.{literals-held}
-use Rattle.shown.specs.Shown.{shown-size}
-use Rattle.shown.proofs.Laws.{shown-size-is}
-use Rattle.line.specs.Line.{line-bytes, line-size}
+use Rattle.splice.proofs.Laws.{splice-append}
+use Rattle.line.specs.Line.{line-bytes, line-answer, line-output, WritesLine}
 
--- the size is the number of the line's bytes
-pub line-size-is : (p l h t : List ℕ) (v : Value) → length (line-bytes (literals-held p l) (texts-held h t) v) ≡ line-size p h v
-unfolding line-bytes line-size
-line-size-is p l h t v = length-append (shown (literals-held p l) (texts-held h t) v) (10 ∷ []) ∙ ap (λ (n : ℕ). n + 1) (shown-size-is p l h t v)
+-- byte 10 is one byte more
+one-more : (bs : List ℕ) → length (bs ++ (10 ∷ [])) ≡ length bs + 1
+one-more bs = length-append bs (10 ∷ [])
 
-pub size-of-line : (p h : List ℕ) (v : Value) (a b : ℕ) → a ≡ b → b ≡ shown-size p h v → a + 1 ≡ line-size p h v
-unfolding line-size
-size-of-line p h v a b ea eb = rw (ea, eb)
+-- so a line is not empty
+pub line-some : (literals made : List (List ℕ)) (v : Value) → 0 < length (line-bytes literals made v)
+unfolding line-bytes
+line-some literals made v = let e = one-more (shown literals made v) in omega arith
 
--- write_line: byte 10 behind what is shown, where there is a place for it
-module _ (p l h t : List ℕ) (v : Value) (m m′ : List ℕ) (at n k : ℕ) (ek : k ≡ shown-size p h v) (en : n ≡ k)
-    (e : m′ ≡ splice m at (shown (literals-held p l) (texts-held h t) v)) where
-  both : splice m at (line-bytes (literals-held p l) (texts-held h t) v) ≡ splice m′ (at + n) (10 ∷ [])
-  unfolding line-bytes
-  both =
-      splice-append m at (shown (literals-held p l) (texts-held h t) v) (10 ∷ [])
-      ∙ ap (λ (x : List ℕ). splice x (at + length (shown (literals-held p l) (texts-held h t) v)) (10 ∷ [])) (sym e)
-      ∙ ap (λ (j : ℕ). splice m′ (at + j) (10 ∷ [])) (shown-size-is p l h t v ∙ sym (en ∙ ek))
+-- write_bytes
+module _ (bs m : List ℕ) (at : ℕ) where
+  pub bytes-too-long : length m - at ≤ length bs → WritesLine (bs ++ (10 ∷ [])) m at 0 m
+  unfolding line-answer line-output
+  bytes-too-long le =
+      let e = one-more bs in
+      let q = lt-leb (length (bs ++ (10 ∷ []))) (length m - at) (omega arith) in
+      record { answer = rw q; output = rw q }
 
-  same-size : length m′ ≡ length m
-  same-size = rw e (splice-length m at (shown (literals-held p l) (texts-held h t) v))
+  pub bytes-written : length bs < length m - at → (m′ m″ : List ℕ) → m′ ≡ splice m at bs → m″ ≡ set-word m′ (at + length bs) 10
+      → WritesLine (bs ++ (10 ∷ [])) m at (length bs + 1) m″
+  unfolding line-answer line-output splice set-word
+  bytes-written lt m′ m″ e′ e″ =
+      let e = one-more bs in
+      let q = le-leb (length (bs ++ (10 ∷ []))) (length m - at) (omega arith) in
+      record {
+        answer = rw q (sym e);
+        output = rw q (e″ ∙ ap (λ (x : List ℕ). set-word x (at + length bs) 10) e′ ∙ sym (splice-append m at bs (10 ∷ [])));
+      }
 
-  pub line-past : length m < at → m′ ≡ splice m at (line-bytes (literals-held p l) (texts-held h t) v)
-  line-past lt = sym (both ∙ splice-past m′ (at + n) (10 ∷ []) (let s = same-size in omega arith))
+-- write_integer
+pub digits-written : (y z : ℤ) (bs : List ℕ) (start : ℕ) → Holds 0 bs start (decimal y) → y ≡ z → (m m′ : List ℕ) (at r : ℕ)
+    → WritesLine (take (11 - start) (drop start bs) ++ (10 ∷ [])) m at r m′ → WritesLine (decimal z ++ (10 ∷ [])) m at r m′
+digits-written y z bs start a e m m′ at r w =
+    let q : take (11 - start) (drop start bs) ≡ decimal z = held-bytes 0 bs start (decimal y) a ∙ ap decimal e in
+    rw q at w
 
-  pub line-full : at ≤ length m → length m - at ≤ n → m′ ≡ splice m at (line-bytes (literals-held p l) (texts-held h t) v)
-  line-full le le′ = sym (both ∙ splice-past m′ (at + n) (10 ∷ []) (let s = same-size in omega arith))
+-- write_line
+module _ (literals made : List (List ℕ)) (v : Value) (m m′ : List ℕ) (at r : ℕ) where
+  pub writes-int : (y z : ℤ) → v ≡ Value.Int z → WritesLine (decimal y ++ (10 ∷ [])) m at r m′ → y ≡ z → WritesLine (line-bytes literals made v) m at r m′
+  unfolding line-bytes shown
+  writes-int y z ev w e = rw (ev, ← e) w
 
-  pub line-written : (m″ : List ℕ) → m″ ≡ set-word m′ (at + n) 10 → m″ ≡ splice m at (line-bytes (literals-held p l) (texts-held h t) v)
-  unfolding splice set-word
-  line-written m″ q = q ∙ sym (both ∙ one)
-    where
-      one : splice m′ (at + n) (10 ∷ []) ≡ set-word m′ (at + n) 10
-      one = refl
+  pub writes-text : (x : Text) (bs : List ℕ) → v ≡ Value.Text x → bs ≡ text-bytes literals made x → WritesLine (bs ++ (10 ∷ [])) m at r m′
+      → WritesLine (line-bytes literals made v) m at r m′
+  unfolding line-bytes shown
+  writes-text x bs ev e w = rw (ev, ← e) w
+
+  pub writes-code : (k : ℕ) → v ≡ Value.Code k → WritesLine ((99 ∷ 111 ∷ 100 ∷ 101 ∷ []) ++ (10 ∷ [])) m at r m′ → WritesLine (line-bytes literals made v) m at r m′
+  unfolding line-bytes shown bytes
+  writes-code k ev w = rw ev w
+
+  pub writes-frame : (n : ℕ) → v ≡ Value.Frame n → WritesLine ((102 ∷ 114 ∷ 97 ∷ 109 ∷ 101 ∷ []) ++ (10 ∷ [])) m at r m′ → WritesLine (line-bytes literals made v) m at r m′
+  unfolding line-bytes shown bytes
+  writes-frame n ev w = rw ev w

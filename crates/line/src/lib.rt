@@ -1,19 +1,39 @@
-// The line of a show: what is shown of the value, then byte 10. Its size, and the line written into the output buffer.
+// The line of a show: what is shown of the value, then byte 10, written into the output buffer where it fits.
 use framed::Value;
-ghost use mathlib.Core.Path.{_≡_};
+ghost use mathlib.Core.List.{[], _∷_, _++_};
+ghost use Prim.Native.Nat.{_≤_};
+ghost use lib.ListN.{length};
+ghost use Rattle.framed.specs.Values.{decimal};
 ghost use Rattle.heap.specs.Held.{texts-held};
-ghost use Rattle.splice.specs.Splice.{splice};
 ghost use Rattle.texts.specs.Literals.{literals-held};
 ghost use Rattle.texts.specs.Texts.{Readable};
-ghost use Rattle.line.specs.Line.{line-size, line-bytes};
+ghost use Rattle.line.specs.Line.{line-bytes, WritesLine};
 
-pub fn line_size(p: &[u32], h: &[u32], v: Value) -> usize
-    ensures { λ r. ⌜ r ≡ line-size (now (p .entry)) (now (h .entry)) v ⌝ }
+// Bytes and byte 10 behind them at a position of the buffer, where both fit: how many they are. Else 0, and nothing is written.
+fn write_bytes(m: &mut [u8], at: usize, s: &[u8]) -> usize
+    requires { ⌜ at ≤ length (now m) ⌝ }
+    ensures { λ r. ⌜ WritesLine (now (s .entry) ++ (10 ∷ [])) (now (m .entry)) at r (now (m .exit)) ⌝ }
 {
-    words::wide(shown::shown_size(p, h, v)) + 1
+    let n = s.len();
+    if m.len() - at <= n {
+        return 0;
+    }
+    splice::write(m, at, s);
+    words::set_byte(m, at + n, 10);
+    n + 1
 }
 
-// The line at a position of the buffer: nothing else is touched, and what would lie past the end is dropped.
+// The decimal integer and byte 10 behind it. Its digits are found once, and copied.
+fn write_integer(m: &mut [u8], at: usize, n: i32) -> usize
+    requires { ⌜ at ≤ length (now m) ⌝ }
+    ensures { λ r. ⌜ WritesLine (decimal n ++ (10 ∷ [])) (now (m .entry)) at r (now (m .exit)) ⌝ }
+{
+    let mut bytes = [0u8; 11];
+    let start = decimal::decimal(&mut bytes, n);
+    write_bytes(m, at, &bytes[start..])
+}
+
+// The line at a position of the buffer, where it fits: its size. Else 0, and nothing is written.
 pub fn write_line<'a>(
     m: &mut [u8],
     at: usize,
@@ -22,18 +42,15 @@ pub fn write_line<'a>(
     h: &[u32],
     t: &'a [u8],
     v: Value,
-)
+) -> usize
     requires { ⌜ Readable (now p) (now l) (now h) (now t) ⌝ }
-    ensures { λ _. ⌜ now (m .exit) ≡ splice (now (m .entry)) at (line-bytes (literals-held (now (p .entry)) (now (l .entry))) (texts-held (now (h .entry)) (now (t .entry))) v) ⌝ }
+    requires { ⌜ at ≤ length (now m) ⌝ }
+    ensures { λ r. ⌜ WritesLine (line-bytes (literals-held (now (p .entry)) (now (l .entry))) (texts-held (now (h .entry)) (now (t .entry))) v) (now (m .entry)) at r (now (m .exit)) ⌝ }
 {
-    let n = words::wide(shown::shown_size(p, h, v));
-    let size = m.len();
-    shown::write_shown(m, at, p, l, h, t, v);
-    if size < at {
-        return;
+    match v {
+        Value::Int(n) => write_integer(m, at, n),
+        Value::Text(x) => write_bytes(m, at, texts::text_bytes(p, l, h, t, x)),
+        Value::Code(_) => write_bytes(m, at, b"code"),
+        Value::Frame(_) => write_bytes(m, at, b"frame"),
     }
-    if size - at <= n {
-        return;
-    }
-    words::set_byte(m, at + n, 10);
 }

@@ -1,11 +1,10 @@
 // For each source that the file `index` names: the name, and that it loads with its counts, or the number that refuses it. F and T are 256.
 ghost use lib.ListN.{length};
 ghost use Rattle.loadcheck.specs.Lines.{Begins, Ends};
-use libc::STDOUT_FILENO;
 
 fn print_count(word: &[u8], n: u32) {
-    io::write_all(STDOUT_FILENO, word);
-    io::print_decimal(STDOUT_FILENO, n as u64);
+    output::put(word);
+    output::put_number(n);
 }
 
 // The counts in program words and, of the written frames, in heap words: all frames in use but self.
@@ -21,14 +20,14 @@ fn print_counts(p: &[u32], h: &[u32]) {
 }
 
 fn print_answer(name: &[u8], n: u32, p: &[u32], h: &[u32]) {
-    io::write_all(STDOUT_FILENO, name);
+    output::put(name);
     if n == 0 {
         print_counts(p, h);
     } else {
-        io::write_all(STDOUT_FILENO, b" refused ");
-        io::print_decimal(STDOUT_FILENO, n as u64);
+        output::put(b" refused ");
+        output::put_number(n);
     }
-    io::write_all(STDOUT_FILENO, b"\n");
+    output::put(b"\n");
 }
 
 fn load_source(name: &[u8], source: &[u8]) {

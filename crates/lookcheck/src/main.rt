@@ -1,12 +1,7 @@
 // Builds the memories of a small program that has run to its end, as the file `made` says, and looks along each line of the file `paths`. A line of `made` is a
 // memory (0 program words, 1 heap words, 2 literal bytes, 3 text bytes), a place and a value.
 use framed::LookAnswer;
-use libc::STDOUT_FILENO;
 ghost use Rattle.io.specs.Counts.{Counts};
-
-fn write(text: &[u8]) {
-    io::write_all(STDOUT_FILENO, text);
-}
 
 // A number, and the place after the byte behind it.
 struct Number {
@@ -78,38 +73,28 @@ fn make(made: &[u8], p: &mut [u32], h: &mut [u32], l: &mut [u8], t: &mut [u8]) {
     }
 }
 
-fn write_integer(n: i32) {
-    let w = ints::word_of(n);
-    if w < 2147483648 {
-        io::print_decimal(STDOUT_FILENO, w as u64);
-        return;
-    }
-    write(b"-");
-    io::print_decimal(STDOUT_FILENO, 4294967296 - (w as u64));
-}
-
 fn write_answer(a: LookAnswer) {
     match a {
         LookAnswer::Integer(n) => {
-            write(b"integer ");
-            write_integer(n);
+            output::put(b"integer ");
+            output::put_integer(n);
         }
-        LookAnswer::Text => write(b"text"),
-        LookAnswer::Code => write(b"code"),
-        LookAnswer::Frame => write(b"frame"),
-        LookAnswer::NotWellFormed => write(b"20"),
-        LookAnswer::NotPath => write(b"21"),
-        LookAnswer::Undefined => write(b"22"),
+        LookAnswer::Text => output::put(b"text"),
+        LookAnswer::Code => output::put(b"code"),
+        LookAnswer::Frame => output::put(b"frame"),
+        LookAnswer::NotWellFormed => output::put(b"20"),
+        LookAnswer::NotPath => output::put(b"21"),
+        LookAnswer::Undefined => output::put(b"22"),
     }
 }
 
 fn write_look<'a>(p: &[u32], h: &[u32], l: &'a [u8], t: &'a [u8], path: &[u8]) {
-    write(path);
-    write(b" is ");
+    output::put(path);
+    output::put(b" is ");
     write_answer(look::look(p, h, l, t, path));
-    write(b" \"");
-    write(look::look_text(p, h, l, t, path));
-    write(b"\"\n");
+    output::put(b" \"");
+    output::put(look::look_text(p, h, l, t, path));
+    output::put(b"\"\n");
 }
 
 // Where a line ends.
@@ -142,11 +127,11 @@ fn write_looks<'a>(p: &[u32], h: &[u32], l: &'a [u8], t: &'a [u8], paths: &[u8])
 // As the memories are, then with another self.
 fn look_thrice<'a>(p: &[u32], h: &mut [u32], l: &'a [u8], t: &'a [u8], paths: &[u8]) {
     write_looks(p, h, l, t, paths);
-    write(b"self is an integer\n");
+    output::put(b"self is an integer\n");
     words::set_word(h, 0, 0);
     words::set_word(h, 1, 5);
     write_looks(p, h, l, t, paths);
-    write(b"self is a frame that is not in use\n");
+    output::put(b"self is a frame that is not in use\n");
     words::set_word(h, 0, 4);
     words::set_word(h, 1, 3);
     write_looks(p, h, l, t, paths);

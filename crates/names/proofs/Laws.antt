@@ -23,7 +23,7 @@ use Rattle.token.specs.Reading.{token-of, token-kind, TokenAt, Spot}
 use Rattle.token.specs.declared.TokenRead.{TokenRead}
 use Rattle.token.proofs.KindNumbers.{kind-is}
 use Rattle.token.proofs.Answers.{spot-of}
-use Rattle.framed.proofs.Lists.{same-equal, same-self}
+use Rattle.framed.proofs.Lists.{same-equal, same-self, not-turned}
 use Rattle.sweep.proofs.Lists.{or-false, or-true, any-last}
 use Rattle.sweep.proofs.Loop as Loop
 use Rattle.sweep.proofs.Loop.{Going, Gives, go-start, go-end, go-none, go-done, go-again}
@@ -196,13 +196,6 @@ number-stays (u ∷ vs) ws w l = go (same u w) l (number-stays vs ws w)
     go true l h = refl
     go false l h = ap suc (h (omega arith))
 
-swapped : (v w : List ℕ) → same w v ≡ false → same v w ≡ false
-swapped v w f = go (same v w) refl
-  where
-    go : (t : Bool) → same v w ≡ t → t ≡ false
-    go true e = absurd (true≢false (sym (same-self w) ∙ ap (same w) (sym (same-equal v w e)) ∙ f))
-    go false e = refl
-
 -- a name that is none of them has no number among them
 pub number-none : (vs : List (List ℕ)) (w : List ℕ) → any (same w) vs ≡ false → number-in vs w ≡ length vs
 unfolding number-in any
@@ -216,7 +209,7 @@ number-none (v ∷ vs) w f = go (same w v) refl f (λ q. number-none vs w q)
     go : (t : Bool) → same w v ≡ t → (t || any (same w) vs) ≡ false → (any (same w) vs ≡ false → number-in vs w ≡ length vs) →
         _≡_ {A = ℕ} (elim (same v w) [ true ↦ 0 | false ↦ suc (number-in vs w) ]) (suc (length vs))
     go true e q h = absurd (true≢false q)
-    go false e q h = later (same v w) (swapped v w e) (h q)
+    go false e q h = later (same v w) (not-turned w v e) (h q)
 
 module _ (s b e : List ℕ) (n a p : ℕ) (hb : n < length b) (he : n < length e) (i : Numbered s b e n) (new : any (same (part s a p)) (table-of s b e n) ≡ false) where
   own-before : (k : ℕ) → k < n → number-in (table-of s (set-word b n a) (set-word e n p) (n + 1)) (part s (word (set-word b n a) k) (word (set-word e n p) k)) ≡ k

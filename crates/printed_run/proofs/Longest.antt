@@ -1,15 +1,13 @@
 -- How many bytes a print has at most. Assumes nothing.
-use Prim.Native.Nat.{ℕ, zero, suc, _+_, _-_, _/_, _%_, _^_, _≤_, _<_}
+use Prim.Native.Nat.{ℕ, zero, suc, _+_, _-_, _^_, _≤_, _<_}
 use mathlib.Core.Path.{_≡_, refl, _∙_, ap, sym, subst}
 use mathlib.Core.Logic.{_⊎_, inl, inr}
 use mathlib.Core.Bool.{Bool, true, false}
 use mathlib.Core.List.{List, [], _∷_, _++_}
 use mathlib.Core.Option.{Option, none, some}
 use native.Mathlib.Omega.{arith}
-use native.Mathlib.Nat.{pow-suc}
-use lib.Dec.{ltb, leb}
+use lib.Dec.{leb}
 use lib.ListN.{length, replicate, length-append}
-use borrow.Author.Tests.{ltb-false}
 use Rattle.framed.specs.declared.LoadAnswer.{LoadAnswer}
 use Rattle.framed.specs.declared.RunAnswer.{RunAnswer}
 use Rattle.framed.specs.declared.Stop.{Stop}
@@ -21,6 +19,7 @@ use Rattle.framed.specs.Machine.{Effect, Result, gives, ends, step}
 use Rattle.framed.specs.Answers.{load-number, Stopped, stop-word, run-report}
 use Rattle.framed.specs.Calls.{Unbounded, at-start, advanced, ended, attempted, Position, at-end, before, position, Ran, stopped, one-more, run, frame-total, text-total}
 use Rattle.framed.specs.Framerun.{right-memories, number, stop-bytes, last-line, printed, framerun}
+use Rattle.framed.proofs.Digits.{digits-few}
 use Rattle.heap.specs.Held.{frames-in-use, texts-in-use}
 use Rattle.heap.proofs.Lists.{passing-few}
 use Rattle.bounded.proofs.UnboundedRuns.{unbounded-runs}
@@ -36,24 +35,9 @@ use Rattle.printed_run.proofs.Reports.{zeros, right, run-of, ran-report
 
 -- ---- The digits of a number
 
-digits-few : (k b n : ℕ) → n < 10 ^ suc k → length (digits-within b n) ≤ suc k
-unfolding digits-within
-digits-few k zero n lt = omega arith
-digits-few k (suc b) n lt = go (ltb n 10) refl k lt (λ j less. digits-few j b (n / 10) less)
-  where
-    go : (t : Bool) → ltb n 10 ≡ t → (k : ℕ) → n < 10 ^ suc k → ((j : ℕ) → n / 10 < 10 ^ suc j → length (digits-within b (n / 10)) ≤ suc j) →
-        length {A = ℕ} (elim t [ true ↦ (48 + n) ∷ [] | false ↦ digits-within b (n / 10) ++ ((48 + n % 10) ∷ []) ]) ≤ suc k
-    go true e k lt ih = omega arith
-    go false e zero lt ih = let le = ltb-false n 10 e in absurd (omega arith)
-    go false e (suc k) lt ih =
-        let w = pow-suc 10 (suc k) in
-        let few = ih k (omega arith) in
-        let l = length-append (digits-within b (n / 10)) ((48 + n % 10) ∷ []) in
-        omega arith
-
 number-few : (k n : ℕ) → n < 10 ^ suc k → length (number n) ≤ suc k
 unfolding number decimal
-number-few k n lt = digits-few k (suc n) n lt
+number-few k n lt = digits-few (suc n) n k lt
 
 -- ---- How a run stops, and after how many steps
 

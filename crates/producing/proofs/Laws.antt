@@ -1,11 +1,12 @@
 -- What each way through the functions gives. Assumes nothing.
 use Prim.Native.Nat.{ℕ, _+_, _*_, _≤_}
-use mathlib.Core.Path.{_≡_, _∙_}
+use mathlib.Core.Path.{_≡_, _∙_, ap, sym}
 use mathlib.Core.Bool.{Bool, true, false}
 use mathlib.Core.List.{List, [], _∷_}
 use native.Mathlib.Omega.{arith}
 use lib.IntN.{ℤ, pos}
-use lib.ListN.{length}
+use lib.ListN.{length, take}
+use lib.Seq.{length-take-le}
 use types.Run.{OneOf, miss}
 use denote.Enum.Declared.{tagOf}
 use borrow.Author.Tests.{le-ltb}
@@ -28,7 +29,7 @@ use Rattle.texts.specs.Texts.{Readable}
 use Rattle.splice.specs.Splice.{splice}
 use Rattle.shown.specs.Shown.{shown-size}
 use Rattle.joining.specs.Joining.{join-bytes, join-written}
-use Rattle.joining.proofs.Laws.{join-length}
+use Rattle.joining.proofs.Laws.{join-length, filled-front}
 use Rattle.bounded.specs.Operations.{Product, text, operated}
 use Rattle.bounded.specs.Bounded.{value-given, produce}
 use Rattle.word_store.specs.Store.{word-store}
@@ -37,7 +38,7 @@ use Rattle.operands.specs.Operands.{operand-value}
 use Rattle.operators.specs.declared.Operated.{Operated}
 use Rattle.operators.specs.Operators as operators
 use Rattle.operators.specs.Operators.{operator-of}
-use Rattle.producing.specs.Producing.{HasRoom, Writable, made, read-entry, read-value, CanJoin, Joins, CanProduce, Produces, operation-held, Operates}
+use Rattle.producing.specs.Producing.{HasRoom, Writable, made, read-entry, read-value, MakesText, CanJoin, Joins, CanProduce, Produces, operation-held, Operates}
 use Rattle.producing.proofs.Operated.{Modest, a-text, operated-modest}
 use Rattle.producing.proofs.Leaves.{leaves-none, text-store, text-next, text-leaves}
 
@@ -94,13 +95,34 @@ readable-from p l h t w = record {
 
 -- ---- join
 
-pub join-done : (p l h t : List ℕ) (v w : Value) (k a b : ℕ) (h′ t′ : List ℕ) → t′ ≡ join-written p l h t k v w → h′ ≡ take-text h k (a + b)
-    → k ≡ next-text h → a ≡ shown-size p h v → b ≡ shown-size p h w → Joins p l h t v w (Value.Text (Text.Made k)) h′ t′
-join-done p l h t v w k a b h′ t′ et eh ek ea eb = record {
-  answer = rw (← ek);
-  words = eh ∙ rw (ea, eb, ek);
-  bytes = et ∙ rw ek;
-}
+pub text-made : (h t bs : List ℕ) (k a : ℕ) (h′ t′ : List ℕ) → k ≡ next-text h → a ≡ k → t′ ≡ splice t (64 * a) bs → h′ ≡ take-text h k (length bs)
+    → MakesText h t bs (Value.Text (Text.Made k)) h′ t′
+text-made h t bs k a h′ t′ ek ea et eh = record { answer = rw (← ek); words = eh ∙ rw ek; bytes = et ∙ rw (ea, ek) }
+
+-- of the bytes of two values
+module _ (p l h t : List ℕ) (v w : Value) (can : CanJoin p l h t v w) where
+  pub joins-made : (bs : List ℕ) → bs ≡ join-bytes (literals-held p l) (texts-held h t) v w → (r : Value) (h′ t′ : List ℕ) → MakesText h t bs r h′ t′ → Joins p l h t v w r h′ t′
+  unfolding join-written
+  joins-made bs e r h′ t′ m = record {
+    answer = m .answer;
+    words = m .words ∙ ap (take-text h (next-text h)) (ap length e ∙ join-length p l h t v w);
+    bytes = m .bytes ∙ rw (le-ltb 64 (shown-size p h v + shown-size p h w) (can .short), e);
+  }
+
+  -- join
+  module _ (n : ℕ) (en : n ≡ shown-size p h v + shown-size p h w) where
+    few : n ≤ 64
+    few = let s = can .short in omega arith
+
+    pub taken : (bs : List ℕ) → length bs ≡ 64 → n ≡ length (take n bs)
+    taken bs s = let f = few in sym (length-take-le n bs (omega arith))
+
+    pub filled-few : (bs : List ℕ) → length bs ≡ 64 → length (take n bs) ≤ 64
+    filled-few bs s = let f = few in let t = taken bs s in omega arith
+
+    pub joins-filled : (buf buf′ : List ℕ) → length buf ≡ 64 → buf′ ≡ splice buf 0 (join-bytes (literals-held p l) (texts-held h t) v w)
+        → (r : Value) (h′ t′ : List ℕ) → MakesText h t (take n buf′) r h′ t′ → Joins p l h t v w r h′ t′
+    joins-filled buf buf′ size e = joins-made (take n buf′) (filled-front p l h t v w n en few buf buf′ size e)
 
 -- ---- produce
 

@@ -1,6 +1,6 @@
 -- Document 01, "The endless machine", expressions that make no frame, over the words; what is made is that of the bounded machine's `produce` on the store that
 -- the words are. The words of self, program, position and end mark stay as they are. Assumes nothing.
-use Prim.Native.Nat.{ℕ, _+_, _≤_, _<_}
+use Prim.Native.Nat.{ℕ, _+_, _*_, _≤_, _<_}
 use mathlib.Core.Path.{_≡_}
 use mathlib.Core.Bool.{not}
 use mathlib.Core.List.{List}
@@ -19,6 +19,7 @@ use Rattle.heap.specs.Closed.{Sized, FrameInUse, TextInUse}
 use Rattle.allocation.specs.Allocation.{next-text}
 use Rattle.texts.specs.Literals.{literals-held}
 use Rattle.texts.specs.Texts.{Readable}
+use Rattle.splice.specs.Splice.{splice}
 use Rattle.shown.specs.Shown.{shown-size}
 use Rattle.joining.specs.Joining.{join-written}
 use Rattle.bounded.specs.Operations.{Product, operated}
@@ -76,6 +77,12 @@ unfoldable pub read-value : List ℕ → List ℕ → ℕ → Value
 read-value p h x = read-entry p h x (expression-at p x)
 
 -- ---- Operators
+
+-- a new made text of bytes bs: the answer and the memories
+pub record MakesText (h t bs : List ℕ) (r : Value) (h′ t′ : List ℕ) : Type 0 where
+  pub answer : r ≡ Value.Text (Text.Made (next-text h))
+  pub words : h′ ≡ take-text h (next-text h) (length bs)
+  pub bytes : t′ ≡ splice t (64 * next-text h) bs
 
 pub record CanJoin (p l h t : List ℕ) (v w : Value) : Type 0 where
   pub readable : Readable p l h t

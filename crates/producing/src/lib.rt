@@ -5,10 +5,12 @@ use operators::Operated;
 use paths::Fetched;
 use tables::ExpressionEntry;
 ghost use mathlib.Core.Path.{_≡_};
+ghost use Prim.Native.Nat.{_≤_};
+ghost use lib.ListN.{length};
 ghost use Rattle.allocation.specs.Known.{TextsFull};
 ghost use Rattle.bounded.specs.Bounded.{value-given};
 ghost use Rattle.operands.specs.Operands.{operand-value};
-ghost use Rattle.producing.specs.Producing.{read-value, CanJoin, Joins, CanProduce, Produces, Operates};
+ghost use Rattle.producing.specs.Producing.{read-value, MakesText, CanJoin, Joins, CanProduce, Produces, Operates};
 
 // The value of an expression read as a base.
 pub fn given(p: &[u32], h: &[u32], x: u32) -> Value
@@ -33,17 +35,27 @@ pub fn read(p: &[u32], h: &[u32], x: u32) -> Value
     Value::Int(1)
 }
 
+// A new made text with these bytes; those below `low` are in use.
+pub fn make_text(h: &mut [u32], t: &mut [u8], s: &[u8], low: u32) -> Value
+    requires { ⌜ length (now s) ≤ 64 ⌝ }
+    requires { ⌜ TextsFull (now h) low ⌝ }
+    ensures { λ r. ⌜ MakesText (now (h .entry)) (now (t .entry)) (now (s .entry)) r (now (h .exit)) (now (t .exit)) ⌝ }
+{
+    let k = allocation::lowest_text(h, low);
+    splice::write(t, 64 * words::wide(k), s);
+    heap::take_text(h, k, s.len() as u32);
+    Value::Text(Text::Made(k))
+}
+
 // A new made text with the bytes of the two values; those below `low` are in use.
 pub fn join(p: &[u32], l: &[u8], h: &mut [u32], t: &mut [u8], v: Value, w: Value, low: u32) -> Value
     requires { ⌜ CanJoin (now p) (now l) (now h) (now t) v w ⌝ }
     requires { ⌜ TextsFull (now h) low ⌝ }
     ensures { λ r. ⌜ Joins (now (p .entry)) (now (l .entry)) (now (h .entry)) (now (t .entry)) v w r (now (h .exit)) (now (t .exit)) ⌝ }
 {
-    let k = allocation::lowest_text(h, low);
-    let n = shown::shown_size(p, h, v) + shown::shown_size(p, h, w);
-    joining::write_join(p, l, h, t, k, v, w, n);
-    heap::take_text(h, k, n);
-    Value::Text(Text::Made(k))
+    let mut bytes = [0u8; 64];
+    let n = joining::fill_join(&mut bytes, p, l, h, t, v, w);
+    make_text(h, t, &bytes[..n], low)
 }
 
 // What the operator of the kind gives between two values.

@@ -1,6 +1,5 @@
 // For each script that the file `index` names: the name, and what its replay prints.
 use input::Input;
-use libc::STDOUT_FILENO;
 
 fn replay_file(name: &[u8]) {
     let mut script = [0u8; 65537];
@@ -8,8 +7,8 @@ fn replay_file(name: &[u8]) {
         os::fail(name);
         return;
     };
-    io::write_all(STDOUT_FILENO, name);
-    io::write_all(STDOUT_FILENO, b"\n");
+    output::put(name);
+    output::put(b"\n");
     replaying::replay(printing::front(&script, n));
 }
 

@@ -5,37 +5,30 @@ use framed::RunAnswer;
 use framed::RunReport;
 use framed::WriteAnswer;
 use input::Input;
-use libc::STDOUT_FILENO;
 use script::Call;
 use script::Script;
 use token::TokenRead;
-
-fn put(text: &[u8]) {
-    io::write_all(STDOUT_FILENO, text);
-}
-
-fn put_number(n: u32) {
-    io::print_decimal(STDOUT_FILENO, n as u64);
-}
+ghost use Prim.Native.Nat.{_≤_};
+ghost use lib.ListN.{length};
 
 fn put_refused(n: u32) {
-    put(b"refused ");
-    put_number(n);
-    put(b"\n");
+    output::put(b"refused ");
+    output::put_number(n);
+    output::put(b"\n");
 }
 
 // What cannot be taken is printed behind a `?`.
 pub fn put_unfit(text: &[u8]) {
-    put(b"? ");
-    put(text);
-    put(b"\n");
+    output::put(b"? ");
+    output::put(text);
+    output::put(b"\n");
 }
 
 // ---- The calls. A call answers whether the script goes on.
 
 fn put_loaded(number: u32) {
     if number == 0 {
-        put(b"loaded\n");
+        output::put(b"loaded\n");
         return;
     }
     put_refused(number);
@@ -64,27 +57,29 @@ fn load_call(
 
 fn put_stop(number: u32) {
     if number == 1 {
-        put(b"fuel");
+        output::put(b"fuel");
         return;
     }
     if number == 2 {
-        put(b"output");
+        output::put(b"output");
         return;
     }
-    put_number(number);
+    output::put_number(number);
 }
 
-fn put_report(out: &[u8], report: RunReport) {
-    let n = report.bytes;
-    put(printing::front(out, n));
-    put(b"run ");
+fn put_report(out: &[u8], report: RunReport)
+    requires { ⌜ length (now out) ≤ 4096 ⌝ }
+{
+    let text = printing::front(out, report.bytes);
+    output::put(text);
+    output::put(b"run ");
     let stop = report.stop;
     put_stop(answers::stop_number(stop));
-    put(b" steps ");
-    put_number(report.steps);
-    put(b" bytes ");
-    io::print_decimal(STDOUT_FILENO, n as u64);
-    put(b"\n");
+    output::put(b" steps ");
+    output::put_number(report.steps);
+    output::put(b" bytes ");
+    output::put_number(text.len() as u32);
+    output::put(b"\n");
 }
 
 fn run_slice(
@@ -94,7 +89,9 @@ fn run_slice(
     t: &mut [u8; 16384],
     fuel: u32,
     out: &mut [u8],
-) {
+)
+    requires { ⌜ length (now out) ≤ 4096 ⌝ }
+{
     let answer = run::run(p, h, l, t, fuel, out);
     match answer {
         RunAnswer::Stopped(report) => put_report(out, report),
@@ -125,26 +122,24 @@ fn collect_call(p: &[u32; 16384], h: &mut [u32; 16384], l: &[u8; 8192], t: &[u8;
         put_refused(answers::collect_number(answer));
         return true;
     };
-    put(b"collect frames ");
-    put_number(totals.frames);
-    put(b" texts ");
-    put_number(totals.texts);
-    put(b"\n");
+    output::put(b"collect frames ");
+    output::put_number(totals.frames);
+    output::put(b" texts ");
+    output::put_number(totals.texts);
+    output::put(b"\n");
     true
 }
 
 fn put_integer(n: i32) {
-    put(b"look integer ");
-    let mut bytes = [0u8; 11];
-    let start = decimal::decimal(&mut bytes, n);
-    put(&bytes[start..]);
-    put(b"\n");
+    output::put(b"look integer ");
+    output::put_integer(n);
+    output::put(b"\n");
 }
 
 fn put_text(text: &[u8]) {
-    put(b"look text ");
-    put(text);
-    put(b"\n");
+    output::put(b"look text ");
+    output::put(text);
+    output::put(b"\n");
 }
 
 fn look_call<'a>(
@@ -158,28 +153,26 @@ fn look_call<'a>(
     match answer {
         LookAnswer::Integer(n) => put_integer(n),
         LookAnswer::Text => put_text(look::look_text(p, h, l, t, path)),
-        LookAnswer::Code => put(b"look code\n"),
-        LookAnswer::Frame => put(b"look frame\n"),
+        LookAnswer::Code => output::put(b"look code\n"),
+        LookAnswer::Frame => output::put(b"look frame\n"),
         _ => put_refused(answers::look_number(answer)),
     }
     true
 }
 
-fn put_written(text: &[u8]) {
-    put(b"write bytes ");
-    io::print_decimal(STDOUT_FILENO, text.len() as u64);
-    put(b" ");
-    put(text);
-    put(b"\n");
+fn put_written(text: &[u8])
+    requires { ⌜ length (now text) ≤ 32768 ⌝ }
+{
+    output::put(b"write bytes ");
+    output::put_number(text.len() as u32);
+    output::put(b" ");
+    output::put(text);
+    output::put(b"\n");
 }
 
-fn write_slice(
-    p: &[u32; 16384],
-    h: &[u32; 16384],
-    l: &[u8; 8192],
-    t: &[u8; 16384],
-    out: &mut [u8],
-) {
+fn write_slice(p: &[u32; 16384], h: &[u32; 16384], l: &[u8; 8192], t: &[u8; 16384], out: &mut [u8])
+    requires { ⌜ length (now out) ≤ 32768 ⌝ }
+{
     let answer = write::write(p, h, l, t, out);
     match answer {
         WriteAnswer::Written(n) => put_written(printing::front(out, n)),

@@ -1,16 +1,15 @@
 -- One law for each way through the functions of this crate. Assumes nothing.
 use Prim.Native.Nat.{ℕ, _-_}
-use mathlib.Core.Path.{_≡_, refl, _∙_, ap, sym}
+use mathlib.Core.Path.{_≡_, refl, _∙_, ap}
 use mathlib.Core.List.{List, [], _∷_}
-use native.Mathlib.Omega.{arith}
 use lib.IntN.{ℤ}
-use lib.ListN.{length, take, drop, length-drop}
-use lib.Seq.{take-all}
+use lib.ListN.{length, take, drop}
 use Rattle.framed.specs.declared.Text.{Text}
 use Rattle.framed.specs.declared.Value.{Value}
 use Rattle.framed.specs.Common.{bytes}
 use Rattle.framed.specs.Values.{decimal, text-bytes, shown}
 use Rattle.decimal.specs.Decimal.{Holds}
+use Rattle.decimal.proofs.Laws.{held-bytes}
 use Rattle.splice.specs.Splice.{splice}
 use Rattle.texts.specs.Texts.{text-size}
 use Rattle.texts.specs.Literals.{literals-held}
@@ -18,19 +17,18 @@ use Rattle.texts.proofs.Laws.{text-size-is}
 use Rattle.heap.specs.Held.{texts-held}
 use Rattle.shown.specs.Shown.{shown-size}
 
--- integer_size, write_integer
+-- write_integer
 module _ (y z : ℤ) (bs : List ℕ) (start : ℕ) (a : Holds 0 bs start (decimal y)) (e : y ≡ z) where
-  pub size-of-digits : 11 - start ≡ length (decimal z)
-  size-of-digits = sym (rw (← e) (ap length (sym (a .are)) ∙ length-drop start bs ∙ ap (λ (k : ℕ). k - start) (a .size)))
+  digits-are : take (11 - start) (drop start bs) ≡ decimal z
+  digits-are = held-bytes 0 bs start (decimal y) a ∙ ap decimal e
 
   pub digits-written : (m m′ : List ℕ) (at : ℕ) → m′ ≡ splice m at (take (11 - start) (drop start bs)) → m′ ≡ splice m at (decimal z)
-  digits-written m m′ at q =
-      let s = a .size in
-      let i = a .inside in
-      let l = length-drop start bs in
-      rw (q, ← e) (ap (splice m at) (take-all (11 - start) (drop start bs) (omega arith) ∙ a .are))
+  digits-written m m′ at q = rw q (ap (splice m at) digits-are)
 
--- shown_size
+  pub digits-size : (r : ℕ) → r ≡ length (take (11 - start) (drop start bs)) → r ≡ length (decimal z)
+  digits-size r q = q ∙ ap length digits-are
+
+-- shown_size, and the answer of write_shown
 module _ (p h : List ℕ) (v : Value) where
   pub size-int : (y z : ℤ) (r : ℕ) → v ≡ Value.Int z → r ≡ length (decimal y) → y ≡ z → r ≡ shown-size p h v
   unfolding shown-size
@@ -40,13 +38,17 @@ module _ (p h : List ℕ) (v : Value) where
   unfolding shown-size
   size-text x r ev e = rw (ev, e)
 
-  pub size-code : (k : ℕ) → v ≡ Value.Code k → 4 ≡ shown-size p h v
+  pub size-code : (k r : ℕ) → v ≡ Value.Code k → r ≡ 4 → r ≡ shown-size p h v
   unfolding shown-size
-  size-code k ev = rw ev
+  size-code k r ev e = rw (ev, e)
 
-  pub size-frame : (n : ℕ) → v ≡ Value.Frame n → 5 ≡ shown-size p h v
+  pub size-frame : (n r : ℕ) → v ≡ Value.Frame n → r ≡ 5 → r ≡ shown-size p h v
   unfolding shown-size
-  size-frame n ev = rw ev
+  size-frame n r ev e = rw (ev, e)
+
+  -- by the bytes of the text
+  pub size-bytes : (l t : List ℕ) (x : Text) (bs : List ℕ) (r : ℕ) → v ≡ Value.Text x → bs ≡ text-bytes (literals-held p l) (texts-held h t) x → r ≡ length bs → r ≡ shown-size p h v
+  size-bytes l t x bs r ev eb er = size-text x r ev (er ∙ ap length eb ∙ text-size-is p l h t x)
 
 -- it is the number of the bytes shown
 pub shown-size-is : (p l h t : List ℕ) (v : Value) → length (shown (literals-held p l) (texts-held h t) v) ≡ shown-size p h v

@@ -79,9 +79,6 @@ pub writing-start : (m : List ℕ) (at : ℕ) (s : List ℕ) → Writing m at s 
 writing-start m at s = record { inside = omega arith; size = refl; rest = ap (λ (k : ℕ). splice m k s) {x = at + 0} {y = at} (omega arith) }
 
 module _ (m : List ℕ) (at : ℕ) (s now : List ℕ) (i : ℕ) (a : Writing m at s now i) where
-  pub writing-full : length m - at ≤ i → now ≡ splice m at s
-  writing-full le = let z = a .size in sym (splice-past now (at + i) (drop i s) (omega arith)) ∙ a .rest
-
   pub writing-done : length s ≤ i → now ≡ splice m at s
   unfolding splice
   writing-done le = rw (drop-of-length-le s {i = i} le) at (a .rest)

@@ -1,12 +1,13 @@
 -- `:=` of a join, after reserve: the end that it meets, and that the join put at the path is what commit does. Assumes nothing.
 use Prim.Native.Nat.{ℕ, zero, suc, _+_, _/_, _%_, _≤_, _<_}
-use mathlib.Core.Path.{_≡_, refl, _∙_, sym}
-use mathlib.Core.Bool.{Bool, true, false, true≢false}
+use mathlib.Core.Path.{_≡_, refl, _∙_, ap, sym}
+use mathlib.Core.Bool.{Bool, true, false, not, true≢false}
 use mathlib.Core.List.{List, [], _∷_}
 use native.Mathlib.Omega.{arith}
 use native.Mathlib.Decide.{decLt}
 use lib.Dec.{eqb}
-use lib.ListN.{length, getElem?}
+use lib.ListN.{length, take, getElem?}
+use lib.Seq.{length-take-le}
 use types.Run.{hit}
 use borrow.Author.Tests.{eqb-true, le-leb, lt-leb}
 use Rattle.framed.specs.declared.Value.{Value}
@@ -27,8 +28,11 @@ use Rattle.puts.specs.declared.PutTarget.{PutTarget}
 use Rattle.puts.specs.Puts.{targeted, target-along, put-slot}
 use Rattle.puts.proofs.Laws.{put-end-none, put-end-at}
 use Rattle.texts.specs.Literals.{literals-held}
+use Rattle.texts.specs.Texts.{Readable}
+use Rattle.splice.specs.Splice.{splice}
 use Rattle.shown.specs.Shown.{shown-size}
-use Rattle.joining.specs.Joining.{join-end, join-result, join-bytes}
+use Rattle.joining.specs.Joining.{joinable, join-end, join-result, join-bytes}
+use Rattle.joining.proofs.Laws.{end-first, end-second, end-long, end-none, join-length, filled-front}
 use Rattle.joining.proofs.Meaning.{join-means, join-fits}
 use Rattle.bounded.specs.Operations.{operated}
 use Rattle.bounded.specs.Check.{end-of, slot-end, target-end}
@@ -43,9 +47,9 @@ use Rattle.operand_checks.proofs.Laws.{put-empty}
 use Rattle.checking.specs.Checking.{AssignsOrShows, ChecksExpression, operation-end, expression-end, single-end}
 use Rattle.checking.proofs.Laws as checking
 use Rattle.checking.proofs.Laws.{single-is, assign-met, assign-put}
-use Rattle.producing.specs.Producing.{CanJoin, Joins, CanProduce}
+use Rattle.producing.specs.Producing.{MakesText, Joins, CanProduce}
 use Rattle.producing.proofs.Laws as producing
-use Rattle.producing.proofs.Laws.{produce-joined}
+use Rattle.producing.proofs.Laws.{joins-made, produce-joined}
 use Rattle.evaluation.specs.Evaluation.{CanEvaluate, Evaluates}
 use Rattle.evaluation.proofs.Simple.{operation-made, flat-can}
 use Rattle.commit.specs.Commit.{put-along, root-of, set-root, path-of, Assigns}
@@ -53,7 +57,7 @@ use Rattle.commit.specs.Direct.{end-met}
 use Rattle.commit.proofs.Assignment.{assignment-entry}
 use Rattle.commit.proofs.Laws.{put-somewhere, sets-root, puts-root}
 use Rattle.commit.proofs.Meaning.{Assignment, root-path}
-use Rattle.step_join.specs.Join.{joins-entry, CanAssignJoin, CanPutJoin, JoinsOnce}
+use Rattle.step_join.specs.Join.{joins-entry, CanAssignJoin, JoinsValues, CanPutJoin, JoinsOnce}
 
 -- ---- joins
 
@@ -147,15 +151,9 @@ module _ (p l h t : List ℕ) (i : ℕ) (can : CanAssignJoin p l h t i) (x : ℕ
         value-ended p l h t i can 31
         (checking.operation-right p l h t 12 (expression-a p (instruction-c p i)) (expression-b p (instruction-c p i)) r left v ev q right e) (λ z. omega arith)
 
-    module _ (w : Value) (ew : q ≡ Fetched.Found w) (e : ℕ) (ee : e ≡ join-end p h v w) where
-      join-met : (e ≡ 0 → ⊥) → JoinsOnce p l h t i e h t
-      join-met ne =
-          value-ended p l h t i can e
-          (checking.operation-both p l h t 12 (expression-a p (instruction-c p i)) (expression-b p (instruction-c p i)) r left v ev q right w e ew (sym (join-is p l h t v w e ee))) ne
-
-      join-on : e ≡ 0 → CanPutJoin p l h t i v w
-      unfolding defined
-      join-on z = record { can = can; first = rw ev at left; second = rw ew at right; end = sym z ∙ ee }
+    join-on : (w : Value) → q ≡ Fetched.Found w → JoinsValues p l h t i v w
+    unfolding defined
+    join-on w ew = record { can = can; first = rw ev at left; second = rw ew at right }
 
 -- the operands as numbers
 module _ (p l h t : List ℕ) (i : ℕ) (can : CanAssignJoin p l h t i) (x : ℕ) (ex : x ≡ instruction-c p i) (a : ℕ) (ea : a ≡ expression-a p x)
@@ -169,17 +167,62 @@ module _ (p l h t : List ℕ) (i : ℕ) (can : CanAssignJoin p l h t i) (x : ℕ
         let v = value-of (m % 8) (m / 8 % 4294967296) in
         join-second p l h t i can x ex a ea (Fetched.Found v) (number-some p h a m em some v refl) v refl b eb Fetched.Undefined (number-none p h b n en e) refl
 
-    module _ (both : n ≡ 5 → ⊥) (v w : Value) (ev : v ≡ value-of (m % 8) (m / 8 % 4294967296)) (ew : w ≡ value-of (n % 8) (n / 8 % 4294967296))
-        (e : ℕ) (ee : e ≡ join-end p h v w) where
-      pub number-met : (e ≡ 0 → ⊥) → JoinsOnce p l h t i e h t
-      number-met = join-met p l h t i can x ex a ea (Fetched.Found v) (number-some p h a m em some v ev) v refl b eb (Fetched.Found w) (number-some p h b n en both w ew) w refl e ee
+    pub number-on : (n ≡ 5 → ⊥) → (v w : Value) → v ≡ value-of (m % 8) (m / 8 % 4294967296) → w ≡ value-of (n % 8) (n / 8 % 4294967296) → JoinsValues p l h t i v w
+    number-on both v w ev ew =
+        join-on p l h t i can x ex a ea (Fetched.Found v) (number-some p h a m em some v ev) v refl b eb (Fetched.Found w) (number-some p h b n en both w ew) w refl
 
-      pub number-on : e ≡ 0 → CanPutJoin p l h t i v w
-      number-on = join-on p l h t i can x ex a ea (Fetched.Found v) (number-some p h a m em some v ev) v refl b eb (Fetched.Found w) (number-some p h b n en both w ew) w refl e ee
+-- ---- join_values
+
+module _ (p l h t : List ℕ) (i : ℕ) (v w : Value) (on : JoinsValues p l h t i v w) where
+  met : (e : ℕ) → e ≡ join-end p h v w → e ≡ operation-end p l h t 12 (expression-a p (instruction-c p i)) (expression-b p (instruction-c p i))
+  unfolding defined
+  met e ee =
+      checking.operation-both p l h t 12 (expression-a p (instruction-c p i)) (expression-b p (instruction-c p i))
+      (Fetched.Found v) (on .first) v refl (Fetched.Found w) (on .second) w e refl (sym (join-is p l h t v w e ee))
+
+  values-ended : (e : ℕ) → e ≡ join-end p h v w → (e ≡ 0 → ⊥) → JoinsOnce p l h t i e h t
+  values-ended e ee = value-ended p l h t i (on .can) e (met e ee)
+
+  pub readable : Readable p l h t
+  readable = on .can .checks .memories .readable
+
+  module _ (b : Bool) (eb : b ≡ joinable v) where
+    pub first-ended : not b ≡ true → JoinsOnce p l h t i 31 h t
+    first-ended z = values-ended 31 (end-first p h v w b eb z) (λ q. omega arith)
+
+    module _ (one : not b ≡ false) (c : Bool) (ec : c ≡ joinable w) where
+      pub second-ended : not c ≡ true → JoinsOnce p l h t i 31 h t
+      second-ended z = values-ended 31 (end-second p h v w b eb one c ec z) (λ q. omega arith)
+
+      module _ (two : not c ≡ false) (n : ℕ) (en : n ≡ shown-size p h v + shown-size p h w) where
+        pub long-ended : 64 < n → JoinsOnce p l h t i 34 h t
+        long-ended lt = values-ended 34 (end-long p h v w b eb one c ec two _ _ _ _ refl refl refl refl (omega arith)) (λ q. omega arith)
+
+        module _ (le : n ≤ 64) where
+          pub taken : (bs : List ℕ) → length bs ≡ 64 → n ≡ length (take n bs)
+          taken bs s = sym (length-take-le n bs (omega arith))
+
+          pub can-put : (m m′ : List ℕ) → length m ≡ 64 → m′ ≡ splice m 0 (join-bytes (literals-held p l) (texts-held h t) v w) → CanPutJoin p l h t i (take n m′)
+          can-put m m′ size e = record {
+            left = v;
+            right = w;
+            values = on;
+            end = end-none p h v w b eb one c ec two _ _ _ _ refl refl refl refl (omega arith);
+            bytes = filled-front p l h t v w n en le m m′ size e;
+          }
 
 -- ---- put_join
 
-module _ (p l h t : List ℕ) (i : ℕ) (v w : Value) (can : CanPutJoin p l h t i v w) where
+module _ (p l h t : List ℕ) (i : ℕ) (bs : List ℕ) (on : CanPutJoin p l h t i bs) where
+  abbrev v : Value
+  v = on .left
+
+  abbrev w : Value
+  w = on .right
+
+  abbrev can : JoinsValues p l h t i v w
+  can = on .values
+
   abbrev a : ℕ
   a = expression-a p (instruction-c p i)
 
@@ -187,10 +230,10 @@ module _ (p l h t : List ℕ) (i : ℕ) (v w : Value) (can : CanPutJoin p l h t 
   b = expression-b p (instruction-c p i)
 
   short : shown-size p h v + shown-size p h w ≤ 64
-  short = join-fits p l h t v w (sym (can .end))
+  short = join-fits p l h t v w (sym (on .end))
 
-  pub can-join : CanJoin p l h t v w
-  can-join = record { readable = can .can .checks .memories .readable; short = short }
+  pub few : length bs ≤ 64
+  few = let e = ap length (on .bytes) in let j = join-length p l h t v w in let s = short in omega arith
 
   value : CanEvaluate p l h t (instruction-c p i)
   value = can-evaluate p l h t i (can .can)
@@ -204,18 +247,19 @@ module _ (p l h t : List ℕ) (i : ℕ) (v w : Value) (can : CanPutJoin p l h t 
       (ExpressionEntry.Operate 12 a b) (sym entry) 12 a b refl
 
   no-end : 0 ≡ expression-end p l h t (instruction-c p i)
-  unfolding defined
-  no-end = value-end p l h t i (can .can) 0
-      (checking.operation-both p l h t 12 a b (Fetched.Found v) (can .first) v refl (Fetched.Found w) (can .second) w 0 refl (sym (join-is p l h t v w 0 (can .end))))
+  no-end = value-end p l h t i (can .can) 0 (met p l h t i v w can 0 (on .end))
 
   -- the new made text
-  module _ (u : Value) (h₁ t₁ : List ℕ) (m : Joins p l h t v w u h₁ t₁) where
+  module _ (u : Value) (h₁ t₁ : List ℕ) (made : MakesText h t bs u h₁ t₁) where
+    m : Joins p l h t v w u h₁ t₁
+    m = joins-made p l h t v w (record { readable = readable p l h t i v w can; short = short }) bs (on .bytes) u h₁ t₁ made
+
     evaluates : Evaluates p l h t (instruction-c p i) u h₁ t₁
     unfolding defined of-join
     evaluates =
         operation-made p l h t (instruction-c p i) value 12 a b entry u h₁ t₁
         (producing.operation-both p l h t 12 a b produces (Fetched.Found v) (can .first) v refl (Fetched.Found w) (can .second) w u h₁ t₁ refl
-        (produce-joined p l h t 12 v w produces Operated.Joined (operates-join p l h t 12 v w Operated.Joined (omega arith) refl 0 (can .end) refl) refl u h₁ t₁ m))
+        (produce-joined p l h t 12 v w produces Operated.Joined (operates-join p l h t 12 v w Operated.Joined (omega arith) refl 0 (on .end) refl) refl u h₁ t₁ m))
 
     same-frames : frames-held h₁ ≡ frames-held h
     unfolding is-join operator-of
@@ -237,7 +281,7 @@ module _ (p l h t : List ℕ) (i : ℕ) (v w : Value) (can : CanPutJoin p l h t 
         → (h₃ : List ℕ) → h₃ ≡ set-position h₂ (instruction-after p i) → JoinsOnce p l h t i 0 h₃ t₁
     made z h₂ t₁ d h₃ eh = record { end = end-is 0 z; made = λ q. way .done (can .can .commits .writable) h₂ t₁ h₃ d eh; kept = λ q. absurd (q refl) }
 
-    pub join-set : n ≡ 0 → (u : Value) (h₁ t₁ : List ℕ) → Joins p l h t v w u h₁ t₁ → (h₂ : List ℕ) → h₂ ≡ set-root (eqb k 0) h₁ u
+    pub join-set : n ≡ 0 → (u : Value) (h₁ t₁ : List ℕ) → MakesText h t bs u h₁ t₁ → (h₂ : List ℕ) → h₂ ≡ set-root (eqb k 0) h₁ u
         → (h₃ : List ℕ) → h₃ ≡ set-position h₂ (instruction-after p i) → JoinsOnce p l h t i 0 h₃ t₁
     join-set e u h₁ t₁ m h₂ e₂ h₃ e₃ =
         made (put-empty p h (root-of own-path h) j n e) h₂ t₁ (sets-root p l h t (instruction-c p i) u h₁ t₁ (evaluates u h₁ t₁ m) j n own-path e h₂ e₂) h₃ e₃
@@ -259,7 +303,7 @@ module _ (p l h t : List ℕ) (i : ℕ) (v w : Value) (can : CanPutJoin p l h t 
         pub join-full : (d ≡ 0 → ⊥) → JoinsOnce p l h t i d h t
         join-full some = ended p l h t i (can .can) d (end-is d slot-is) some
 
-        pub join-put : d ≡ 0 → (u : Value) (h₁ t₁ : List ℕ) → Joins p l h t v w u h₁ t₁ → (h₂ : List ℕ) → h₂ ≡ put-slot h₁ f y u
+        pub join-put : d ≡ 0 → (u : Value) (h₁ t₁ : List ℕ) → MakesText h t bs u h₁ t₁ → (h₂ : List ℕ) → h₂ ≡ put-slot h₁ f y u
             → (h₃ : List ℕ) → h₃ ≡ set-position h₂ (instruction-after p i) → JoinsOnce p l h t i 0 h₃ t₁
         join-put z u h₁ t₁ m h₂ e₂ h₃ e₃ =
             let at : targeted r ≡ target-along (frames-held h₁) (root-of own-path h) (path-held p j n) = rw (same-frames u h₁ t₁ m) target-is in

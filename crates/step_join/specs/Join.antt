@@ -9,7 +9,9 @@ use Rattle.words.specs.Words.{pick}
 use Rattle.framed.specs.declared.Value.{Value}
 use Rattle.framed.specs.Machine.{gives}
 use Rattle.tables.specs.Fields.{instruction-kind, instruction-c, expression-kind, expression-a, expression-b}
-use Rattle.joining.specs.Joining.{join-end}
+use Rattle.heap.specs.Held.{texts-held}
+use Rattle.texts.specs.Literals.{literals-held}
+use Rattle.joining.specs.Joining.{join-end, join-bytes}
 use Rattle.operands.specs.Operands.{operand-value}
 use Rattle.checking.specs.Checking.{ChecksInstruction}
 use Rattle.commit.specs.Commit.{CanCommit, Commits}
@@ -26,12 +28,19 @@ module _ (p l h t : List ℕ) (i : ℕ) where
     pub commits : CanCommit p l h t i
     pub joins : joins-entry p i ≡ true
 
-  -- and v and w are the values that it joins, which meet no end
-  pub record CanPutJoin (v w : Value) : Type 0 where
+  -- and v and w are the values that it joins
+  pub record JoinsValues (v w : Value) : Type 0 where
     pub can : CanAssignJoin
     pub first : gives v ≡ operand-value p h (expression-a p (instruction-c p i))
     pub second : gives w ≡ operand-value p h (expression-b p (instruction-c p i))
-    pub end : 0 ≡ join-end p h v w
+
+  -- and they meet no end, and bs are their bytes
+  pub record CanPutJoin (bs : List ℕ) : Type 0 where
+    pub left : Value
+    pub right : Value
+    pub values : JoinsValues left right
+    pub end : 0 ≡ join-end p h left right
+    pub bytes : bs ≡ join-bytes (literals-held p l) (texts-held h t) left right
 
   -- 0 made, else the end that it meets, and nothing is written
   pub record JoinsOnce (r : ℕ) (h′ t′ : List ℕ) : Type 0 where

@@ -4,7 +4,7 @@ use framed::Value;
 use puts::PutTarget;
 ghost use mathlib.Core.Path.{_≡_};
 ghost use Rattle.allocation.specs.Known.{TextsFull};
-ghost use Rattle.step_join.specs.Join.{joins-entry, CanAssignJoin, CanPutJoin, JoinsOnce};
+ghost use Rattle.step_join.specs.Join.{joins-entry, CanAssignJoin, JoinsValues, CanPutJoin, JoinsOnce};
 
 // Instruction i assigns a join.
 pub fn joins(p: &[u32], i: u32) -> bool
@@ -16,18 +16,9 @@ pub fn joins(p: &[u32], i: u32) -> bool
     tables::expression_kind(p, tables::instruction_c(p, i)) == 12
 }
 
-// The join of v and w, put at the path of instruction i. The path's end is looked for before anything is written; every made text below `least` is in use.
-fn put_join(
-    p: &[u32],
-    l: &[u8],
-    h: &mut [u32],
-    t: &mut [u8],
-    i: u32,
-    v: Value,
-    w: Value,
-    least: u32,
-) -> u32
-    requires { ⌜ CanPutJoin (now p) (now l) (now h) (now t) i v w ⌝ }
+// The joined bytes as a new made text, put at the path of instruction i. The path's end is looked for before anything is written; every made text below `least` is in use.
+fn put_join(p: &[u32], l: &[u8], h: &mut [u32], t: &mut [u8], i: u32, s: &[u8], least: u32) -> u32
+    requires { ⌜ CanPutJoin (now p) (now l) (now h) (now t) i (now s) ⌝ }
     requires { ⌜ TextsFull (now h) least ⌝ }
     ensures { λ r. ⌜ JoinsOnce (now (p .entry)) (now (l .entry)) (now (h .entry)) (now (t .entry)) i r (now (h .exit)) (now (t .exit)) ⌝ }
 {
@@ -35,7 +26,7 @@ fn put_join(
     let j = tables::instruction_a(p, i);
     let names = tables::instruction_b(p, i);
     if names == 0 {
-        let u = producing::join(p, l, h, t, v, w, least);
+        let u = producing::make_text(h, t, s, least);
         commit::set_root(h, own, u);
         commit::go_on(p, h, i);
         return 0;
@@ -47,10 +38,39 @@ fn put_join(
     if full != 0 {
         return full;
     }
-    let u = producing::join(p, l, h, t, v, w, least);
+    let u = producing::make_text(h, t, s, least);
     puts::put_slot(h, f, name, u);
     commit::go_on(p, h, i);
     0
+}
+
+// The join of v and w, put at the path of instruction i. Their bytes are found once, for the test and for the text.
+fn join_values(
+    p: &[u32],
+    l: &[u8],
+    h: &mut [u32],
+    t: &mut [u8],
+    i: u32,
+    v: Value,
+    w: Value,
+    least: u32,
+) -> u32
+    requires { ⌜ JoinsValues (now p) (now l) (now h) (now t) i v w ⌝ }
+    requires { ⌜ TextsFull (now h) least ⌝ }
+    ensures { λ r. ⌜ JoinsOnce (now (p .entry)) (now (l .entry)) (now (h .entry)) (now (t .entry)) i r (now (h .exit)) (now (t .exit)) ⌝ }
+{
+    if !joining::joinable(v) {
+        return 31;
+    }
+    if !joining::joinable(w) {
+        return 31;
+    }
+    let mut bytes = [0u8; 64];
+    let n = joining::fill_join(&mut bytes, p, l, h, t, v, w);
+    if 64 < n {
+        return 34;
+    }
+    put_join(p, l, h, t, i, &bytes[..n], least)
 }
 
 // `:=` of a join, after reserve; every made text below `least` is in use.
@@ -70,9 +90,5 @@ pub fn assign_join(p: &[u32], l: &[u8], h: &mut [u32], t: &mut [u8], i: u32, lea
     }
     let v = operands::value(m);
     let w = operands::value(n);
-    let met = joining::join_end(p, h, v, w);
-    if met != 0 {
-        return met;
-    }
-    put_join(p, l, h, t, i, v, w, least)
+    join_values(p, l, h, t, i, v, w, least)
 }

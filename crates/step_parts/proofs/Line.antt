@@ -1,5 +1,5 @@
 -- The line of an instruction, and what there being space for it, or not, says. Assumes nothing.
-use Prim.Native.Nat.{ℕ, _-_, _≤_, _<_}
+use Prim.Native.Nat.{ℕ, _-_, _<_}
 use mathlib.Core.Path.{_≡_, refl, _∙_, ap, sym}
 use mathlib.Core.List.{List, [], _∷_}
 use mathlib.Core.Bool.{Bool, true, false}
@@ -8,7 +8,7 @@ use lib.Dec.{leb}
 use lib.ListN.{length}
 use types.Run.{OneOf, miss}
 use denote.Enum.Declared.{tagOf}
-use borrow.Author.Tests.{le-leb, lt-leb}
+use borrow.Author.Tests.{le-leb}
 use Rattle.words.specs.Words.{pick}
 use Rattle.framed.specs.declared.Value.{Value}
 use Rattle.framed.specs.Values.{Heap}
@@ -19,8 +19,8 @@ use Rattle.trees.proofs.Held.{assign-self-held, assign-program-held, show-held,
 use Rattle.heap.specs.Held.{texts-held, heap-held}
 use Rattle.texts.specs.Literals.{literals-held}
 use Rattle.splice.specs.Splice.{splice}
-use Rattle.line.specs.Line.{line-bytes, line-size}
-use Rattle.line.proofs.Laws.{line-size-is}
+use Rattle.line.specs.Line.{line-bytes, line-answer, line-output, WritesLine}
+use Rattle.line.proofs.Laws.{line-some}
 use Rattle.operands.specs.Operands.{operand-value}
 use Rattle.bounded.specs.Bounded.{value-given, heap-in, line}
 use Rattle.word_store.specs.Store.{word-store}
@@ -29,6 +29,26 @@ use Rattle.evaluation.proofs.Stores.{heap-is, frames-are}
 use Rattle.operands.proofs.Literals.{same-literals}
 use Rattle.step_parts.specs.declared.Shown.{Shown}
 use Rattle.step_parts.specs.Step.{line-held, CanShow, show-line, Showing, showing, Shows}
+
+-- a line that is written or not: 0 where it is not, since it is not empty
+module _ (bs out : List ℕ) (used n : ℕ) (out′ : List ℕ) (w : WritesLine bs out used n out′) where
+  not-fitting : 0 < length bs → n ≡ 0 → show-line bs out used ≡ showing Shown.TooLong out′
+  unfolding show-line line-answer line-output
+  not-fitting some z = go (leb (length bs) (length out - used)) (w .answer) (w .output)
+    where
+      go : (b : Bool) → n ≡ pick b (length bs) 0 → out′ ≡ pick b (splice out used bs) out →
+          pick b (showing (Shown.Written (length bs)) (splice out used bs)) (showing Shown.TooLong out) ≡ showing Shown.TooLong out′
+      go true a o = absurd (omega arith)
+      go false a o = rw o
+
+  fitting : (n ≡ 0 → ⊥) → show-line bs out used ≡ showing (Shown.Written n) out′
+  unfolding show-line line-answer line-output
+  fitting nz = go (leb (length bs) (length out - used)) (w .answer) (w .output)
+    where
+      go : (b : Bool) → n ≡ pick b (length bs) 0 → out′ ≡ pick b (splice out used bs) out →
+          pick b (showing (Shown.Written (length bs)) (splice out used bs)) (showing Shown.TooLong out) ≡ showing (Shown.Written n) out′
+      go true a o = rw (a, o)
+      go false a o = absurd (nz a)
 
 module _ (p l h t : List ℕ) (i : ℕ) (out : List ℕ) (used : ℕ) (can : CanShow p l h t i out used) (e : InstructionEntry) (ee : e ≡ instruction-at p i) where
   -- no line
@@ -46,7 +66,8 @@ module _ (p l h t : List ℕ) (i : ℕ) (out : List ℕ) (used : ℕ) (can : Can
   show-none o = record { exact = rw (none e (sym ee) o, le-leb 0 (length out - used) (omega arith)) }
 
   -- that of a show
-  module _ (a : ℕ) (is : e ≡ InstructionEntry.Show a) (v : Value) (ev : v ≡ value-given (operand-value p h a)) (n : ℕ) (en : n ≡ line-size p h v) where
+  module _ (a : ℕ) (is : e ≡ InstructionEntry.Show a) (v : Value) (ev : v ≡ value-given (operand-value p h a)) (n : ℕ) (out′ : List ℕ)
+      (w : WritesLine (line-bytes (literals-held p l) (texts-held h t) v) out used n out′) where
     texts-are : heap-in word-store (store-held h t) .texts ≡ texts-held h t
     unfolding heap-held
     texts-are = ap (λ (H : Heap). H .texts) (heap-is h t)
@@ -55,16 +76,11 @@ module _ (p l h t : List ℕ) (i : ℕ) (out : List ℕ) (used : ℕ) (can : Can
     unfolding line-held line state-held line-bytes operand-value
     is-line = rw (show-held p l (can .program) i (can .there) a (sym ee ∙ is), same-literals p l, texts-are, frames-are h t, ev)
 
-    size : length (line-held p l h t i) ≡ n
-    size = ap length is-line ∙ line-size-is p l h t v ∙ sym en
+    pub show-too-long : n ≡ 0 → Shows p l h t i out used Shown.TooLong out′
+    show-too-long z = record { exact = rw is-line (not-fitting (line-bytes (literals-held p l) (texts-held h t) v) out used n out′ w (line-some (literals-held p l) (texts-held h t) v) z) }
 
-    pub show-too-long : length out - used < n → Shows p l h t i out used Shown.TooLong out
-    unfolding show-line
-    show-too-long lt = record { exact = rw (size, lt-leb n (length out - used) lt) }
-
-    pub show-written : n ≤ length out - used → (out′ : List ℕ) → out′ ≡ splice out used (line-bytes (literals-held p l) (texts-held h t) v) → Shows p l h t i out used (Shown.Written n) out′
-    unfolding show-line
-    show-written le out′ eo = record { exact = rw (size, le-leb n (length out - used) le, is-line, ← eo) }
+    pub show-written : (n ≡ 0 → ⊥) → Shows p l h t i out used (Shown.Written n) out′
+    show-written nz = record { exact = rw is-line (fitting (line-bytes (literals-held p l) (texts-held h t) v) out used n out′ w nz) }
 
 -- ---- Back from the answer
 

@@ -58,12 +58,11 @@ fn show<'a>(
         return Shown::Written(0);
     };
     let v = producing::given(p, h, a);
-    let n = line::line_size(p, h, v);
-    if out.len() - used < n {
+    let size = line::write_line(out, used, p, l, h, t, v);
+    if size == 0 {
         return Shown::TooLong;
     }
-    line::write_line(out, used, p, l, h, t, v);
-    Shown::Written(n)
+    Shown::Written(size)
 }
 
 // The step on instruction i, which assigns or shows, after reserve, part by part: the end that it meets is marked; without space for its line nothing is done; else the line is written and the instruction committed.

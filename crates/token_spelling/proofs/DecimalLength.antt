@@ -1,19 +1,20 @@
 -- The decimal of an integer that digits wrote has no more digits than they are. Assumes nothing.
 use mathlib.Core.Path.{_≡_, refl, subst}
 use mathlib.Core.Bool.{Bool, true, false}
-use mathlib.Core.List.{List, [], _∷_, _++_}
-use Prim.Native.Nat.{ℕ, zero, suc, _+_, _-_, _*_, _/_, _%_, _^_, _≤_, _<_}
+use mathlib.Core.List.{List, _∷_}
+use Prim.Native.Nat.{ℕ, zero, suc, _+_, _-_, _*_, _^_, _≤_, _<_}
 use native.Mathlib.Omega.{arith}
 use native.Mathlib.Nat.{pow-suc}
 use lib.Arith.{digits-lt}
-use lib.Dec.{leb, ltb}
+use lib.Dec.{leb}
 use lib.IntN.{pos, negℤ}
-use lib.ListN.{length, length-append}
-use borrow.Author.Tests.{eqb-true, leb-true, ltb-false}
+use lib.ListN.{length}
+use borrow.Author.Tests.{eqb-true, leb-true}
 use Rattle.framed.specs.Common.{if_then_else_, member}
 use Rattle.framed.specs.Bytes.{class, in-letters, in-digits, space-bytes, mark-bytes, digit}
 use Rattle.framed.specs.Tokens.{number}
-use Rattle.framed.specs.Values.{digits-within, decimal}
+use Rattle.framed.specs.Values.{decimal}
+use Rattle.framed.proofs.Digits.{digits-few}
 use Rattle.token_spelling.proofs.Runs.{both, All}
 
 digit-most : (b : ℕ) → digit class b ≡ true → b ≤ 57
@@ -34,26 +35,11 @@ number-below (All.more {b} {bs} e a) n k h =
     subst (λ (j : ℕ). number (n * 10 + (b - 48)) bs < 10 ^ j) (omega arith)
     (number-below a (n * 10 + (b - 48)) (suc k) (rw (pow-suc 10 k) (digits-lt h (let m = digit-most b e in omega arith))))
 
-digits-length : (bound n k : ℕ) → n < 10 ^ suc k → length (digits-within bound n) ≤ suc k
-unfolding digits-within
-digits-length zero n k h = omega arith
-digits-length (suc bound) n k h = go k h (ltb n 10) refl (digits-length bound (n / 10))
-  where
-    go : (k : ℕ) → n < 10 ^ suc k → (t : Bool) → ltb n 10 ≡ t → ((j : ℕ) → n / 10 < 10 ^ suc j → length (digits-within bound (n / 10)) ≤ suc j) →
-        length {A = ℕ} (elim t [ true ↦ (48 + n) ∷ [] | false ↦ digits-within bound (n / 10) ++ ((48 + n % 10) ∷ []) ]) ≤ suc k
-    go k h true e f = omega arith
-    go zero h false e f = let q = ltb-false n 10 e in absurd (omega arith)
-    go (suc j) h false e f =
-        let p = pow-suc 10 (suc j) in
-        let m = f j (omega arith) in
-        let a = length-append (digits-within bound (n / 10)) ((48 + n % 10) ∷ []) in
-        omega arith
-
 -- the decimal of a number that digits wrote; and of the negative one
 pub decimal-length : (d : ℕ) (ds : List ℕ) → All (digit class) (d ∷ ds) → length (decimal (pos (number 0 (d ∷ ds)))) ≤ suc (length ds)
 unfolding decimal
 decimal-length d ds a =
-    digits-length (suc (number 0 (d ∷ ds))) (number 0 (d ∷ ds)) (length ds)
+    digits-few (suc (number 0 (d ∷ ds))) (number 0 (d ∷ ds)) (length ds)
     (subst (λ (j : ℕ). number 0 (d ∷ ds) < 10 ^ j) (omega arith) (number-below a 0 0 (omega arith)))
 
 pub negative-length : (n : ℕ) → length (decimal (negℤ (pos n))) ≤ suc (length (decimal (pos n)))

@@ -1,45 +1,32 @@
 // Writes the tokens of each source that its arguments name: kind, begin, end, bytes and, of an integer, the number; then the number
 // that refuses the source as tokens, or 0.
-use libc::STDOUT_FILENO;
 use token::TokenRead;
+ghost use Prim.Native.Nat.{_≤_};
+ghost use lib.ListN.{length};
 
-fn write(text: &[u8]) {
-    io::write_all(STDOUT_FILENO, text);
-}
-
-fn write_number(n: u64) {
-    io::print_decimal(STDOUT_FILENO, n);
-}
-
-// The integer that a word holds.
-fn write_integer(word: u32) {
-    let n = word as u64;
-    if n < 2147483648 {
-        write_number(n);
-    } else {
-        write(b"-");
-        write_number(4294967296 - n);
-    }
-}
-
-fn write_token(s: &[u8], kind: u32, begin: usize, end: usize, word: u32) {
-    write_number(kind as u64);
-    write(b" ");
-    write_number(begin as u64);
-    write(b" ");
-    write_number(end as u64);
-    write(b" ");
+fn write_token(s: &[u8], kind: u32, begin: usize, end: usize, word: u32)
+    requires { ⌜ begin ≤ end ⌝ }
+    requires { ⌜ end ≤ 65536 ⌝ }
+{
+    output::put_number(kind);
+    output::put(b" ");
+    output::put_number(begin as u32);
+    output::put(b" ");
+    output::put_number(end as u32);
+    output::put(b" ");
     let bytes = token::token_bytes(s, begin, end);
-    write(bytes);
+    output::put(bytes);
     if kind == 26 {
-        write(b" ");
-        write_integer(word);
+        output::put(b" ");
+        output::put_integer(ints::int_of(word));
     }
-    write(b"\n");
+    output::put(b"\n");
 }
 
 // The tokens of a source, up to its end or to bytes that form none.
-fn write_tokens(s: &[u8]) {
+fn write_tokens(s: &[u8])
+    requires { ⌜ length (now s) ≤ 65536 ⌝ }
+{
     let t = source::classes();
     let mut at = 0;
     while at < s.len() {
@@ -50,7 +37,7 @@ fn write_tokens(s: &[u8]) {
                 return;
             }
             TokenRead::NoToken => {
-                write(b"no token\n");
+                output::put(b"no token\n");
                 return;
             }
             TokenRead::Token(kind, begin, end, word) => {
@@ -84,12 +71,12 @@ fn dump(path: &[u8]) {
     let mut buf = io::large_buffer();
     let n = io::read_full(fd, &mut buf);
     libc::close(fd);
-    write(path);
-    write(b"\n");
+    output::put(path);
+    output::put(b"\n");
     write_tokens(&buf[..n]);
-    write(b"refused ");
-    write_number(refused(&buf[..n]) as u64);
-    write(b"\n");
+    output::put(b"refused ");
+    output::put_number(refused(&buf[..n]));
+    output::put(b"\n");
 }
 
 fn dump_argument(i: usize) {

@@ -11,7 +11,7 @@ use Rattle.framed.specs.declared.WriteAnswer.{WriteAnswer}
 use Rattle.framed.specs.Writer.{text}
 use Rattle.framed.specs.Demands.{Writing}
 use Rattle.trees.specs.Held.{program-held}
-use Rattle.wellformed.specs.WellFormed.{WellFormed, well-formed}
+use Rattle.wellformed.specs.WellFormed.{well-formed}
 use Rattle.wellformed.proofs.Decides.{well-formed-decides}
 use Rattle.write.specs.Write.{writing, write-call}
 use Rattle.write.proofs.Laws.{too-long, call-writes, call-refuses, call-fits}
@@ -38,13 +38,13 @@ module _ (p h l t buffer : List ℕ) where
   data Answered : Writing → Type 0 where
     not-well-formed : Answered (writing WriteAnswer.NotWellFormed buffer)
     short-buffer : Answered (writing WriteAnswer.ShortBuffer buffer)
-    written : WellFormed p h l t → length bytes ≤ length buffer → Answered (writing (WriteAnswer.Written (length bytes)) (in-front bytes buffer))
+    written : length bytes ≤ length buffer → Answered (writing (WriteAnswer.Written (length bytes)) (in-front bytes buffer))
 
   answered : Answered (write-call p h l t buffer)
   answered = go (well-formed p h l t) refl (decLe (length bytes) (length buffer))
     where
       go : (b : Bool) → well-formed p h l t ≡ b → Dec (length bytes ≤ length buffer) → Answered (write-call p h l t buffer)
-      go true e (yes le) = let w = well-formed-decides p h l t .0 e in subst Answered (sym (call-fits p h l t buffer w le)) (Answered.written w le)
+      go true e (yes le) = let w = well-formed-decides p h l t .0 e in subst Answered (sym (call-fits p h l t buffer w le)) (Answered.written le)
       go true e (no lt) =
           let w = well-formed-decides p h l t .0 e in
           subst Answered (sym (call-writes p h l t buffer w ∙ too-long bytes buffer (omega arith))) Answered.short-buffer
@@ -53,7 +53,6 @@ module _ (p h l t buffer : List ℕ) where
 
   -- what a written text is
   pub record Text (n : ℕ) (buffer′ : List ℕ) : Type 0 where
-    pub well-formed : WellFormed p h l t
     pub length-is : n ≡ length bytes
     pub room : length bytes ≤ length buffer
     pub buffer-is : buffer′ ≡ in-front bytes buffer
@@ -61,7 +60,7 @@ module _ (p h l t buffer : List ℕ) where
   told : {x : Writing} {n : ℕ} → Answered x → x .answer ≡ WriteAnswer.Written n → Text n (x .buffer)
   told Answered.not-well-formed e = absurd (true≢false (sym (ap is-written e)))
   told Answered.short-buffer e = absurd (true≢false (sym (ap is-written e)))
-  told (Answered.written w le) e = record { well-formed = w; length-is = sym (ap written-length e); room = le; buffer-is = refl }
+  told (Answered.written le) e = record { length-is = sym (ap written-length e); room = le; buffer-is = refl }
 
   pub call-told : {n : ℕ} → write-call p h l t buffer .answer ≡ WriteAnswer.Written n → Text n (write-call p h l t buffer .buffer)
   call-told e = told answered e
@@ -69,7 +68,7 @@ module _ (p h l t buffer : List ℕ) where
   unwritten : {x : Writing} → Answered x → is-written (x .answer) ≡ false → x .buffer ≡ buffer
   unwritten Answered.not-well-formed e = refl
   unwritten Answered.short-buffer e = refl
-  unwritten (Answered.written w le) e = absurd (true≢false e)
+  unwritten (Answered.written le) e = absurd (true≢false e)
 
   -- a buffer that is too short stays as it was
   pub short-kept : write-call p h l t buffer .answer ≡ WriteAnswer.ShortBuffer → write-call p h l t buffer .buffer ≡ buffer

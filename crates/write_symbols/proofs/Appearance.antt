@@ -10,19 +10,9 @@ use lib.Seq.{take-length}
 use Rattle.framed.specs.Common.{if_then_else_, any, same}
 use Rattle.framed.specs.Tokens.{Token}
 use Rattle.framed.specs.Symbols.{number-in, names-after, name-table, numbered, symbols}
-use Rattle.framed.proofs.Lists.{same-self, same-equal}
+use Rattle.framed.proofs.Lists.{same-self, same-equal, same-turned, not-turned}
 use Rattle.write_symbols.specs.Order.{InOrder, names-in}
 use Rattle.write_symbols.specs.Theorems.{SourceInOrder}
-
-same-turned : (v w : List ℕ) → same v w ≡ true → same w v ≡ true
-same-turned v w e = subst (λ (u : List ℕ). same u v ≡ true) (same-equal v w e) (same-self v)
-
-not-turned : (v w : List ℕ) → same v w ≡ false → same w v ≡ false
-not-turned v w e = go (same w v) refl
-  where
-    go : (t : Bool) → same w v ≡ t → t ≡ false
-    go true q = sym (same-turned w v q) ∙ e
-    go false q = refl
 
 -- ---- The names of a source
 

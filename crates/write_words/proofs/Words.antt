@@ -19,6 +19,7 @@ use Rattle.tables.specs.Fields.{names, name-length, name-byte, literal-length, 
 use Rattle.trees.specs.Held.{name-bytes, literal-bytes, program-held}
 use Rattle.trees.proofs.Held.{list-get, list-length, one-level-held}
 use Rattle.decimal.specs.Decimal.{Holds}
+use Rattle.decimal.proofs.Laws.{held-bytes}
 use Rattle.texts.proofs.Inside.{literals-inside}
 use Rattle.write_words.specs.Appending.{capped, CanAppend, Appended}
 use Rattle.write_words.specs.Words.{name-table, integer-text, string-text, AtName, AtLiteral, FitsBytes}
@@ -128,9 +129,7 @@ module _ {m m₁ m₂ bs : List ℕ} {limit at a r start : ℕ} {y z : ℤ} (can
   pub integer-appended : Holds 0 bs start (decimal y) → y ≡ z → Appended m₁ limit a (take (11 - start) (drop start bs)) m₂ r → Appended m limit at (integer-text z) m₂ r
   unfolding integer-text led word-bytes token-bytes
   integer-appended h e w =
-      let s = h .size in
-      let l = length-drop start bs in
-      let d : take (11 - start) (drop start bs) ≡ decimal z = take-all (11 - start) (drop start bs) (omega arith) ∙ h .are ∙ ap decimal e in
+      let d : take (11 - start) (drop start bs) ≡ decimal z = held-bytes 0 bs start (decimal y) h ∙ ap decimal e in
       let t : 32 ∷ take (11 - start) (drop start bs) ≡ integer-text z =
       ap (λ (k : List ℕ). 32 ∷ k) (d ∙ sym (append-nil (decimal z ++ []) ∙ append-nil (decimal z))) in
       rw t at (appended-then can x w)

@@ -50,9 +50,8 @@ impl Calls {
         m
     }
 
-    fn run(&self, m: &mut Memories, fuel: u32) -> RunReport {
-        (self.run)(&m.program, &mut m.heap, &m.literals, &mut m.texts, black_box(fuel), &mut [0; 256])
-            .expect("whole memories")
+    fn run(&self, m: &mut Memories, fuel: u32, space: &mut [u8]) -> RunReport {
+        (self.run)(&m.program, &mut m.heap, &m.literals, &mut m.texts, black_box(fuel), space).expect("whole memories")
     }
 }
 
@@ -113,6 +112,11 @@ const TEXTS: &str = "frame: [ Main := frame: [
   start := code { self.n := 0; jump ^.loop self; },
   loop := code { self.n := self.n + 1; self.t := \"n = \" # self.n; self.same := self.t == \"n = 5\"; jump ^.loop self; } ] ]";
 
+/// A line in three steps.
+const SHOWS: &str = "frame: [ Main := frame: [
+  start := code { self.n := 0; jump ^.loop self; },
+  loop := code { self.n := self.n + 1; show self.n; jump ^.loop self; } ] ]";
+
 /// One frame in four steps, dead after them.
 const CALLS: &str = "frame: [
   double := frame: [ start := code { self.caller.result := self.x + self.x; jump self.return self.caller; } ],
@@ -132,8 +136,9 @@ const LIST: &str = "frame: [ Main := frame: [
 fn steps(calls: &Calls, source: &str, frames: u32) -> f64 {
     let fuel = 5_000;
     let mut m = calls.loaded(source, frames);
+    let mut space = [0; 32_768];
     time(|| {
-        let report = calls.run(&mut m, fuel);
+        let report = calls.run(&mut m, fuel, &mut space);
         assert_eq!((report.stop, report.steps), (Stop::Fuel, fuel));
     }) / f64::from(fuel)
 }
@@ -167,6 +172,7 @@ const MEASURES: &[Measure] = &[
         },
     },
     Measure { name: "steps, a counting loop", item: "step", seconds: |calls| steps(calls, COUNT, 256) },
+    Measure { name: "steps, shown counters", item: "step", seconds: |calls| steps(calls, SHOWS, 256) },
     Measure { name: "steps, joined and compared texts", item: "step", seconds: |calls| steps(calls, TEXTS, 256) },
     Measure {
         name: "frames made, no collection",
@@ -177,7 +183,7 @@ const MEASURES: &[Measure] = &[
             // 250 frames fit beside the three of the start; the cost of the call is spread over them
             let reset = |m: &mut Memories| m.heap.copy_from_slice(&loaded.heap);
             let work = |m: &mut Memories| {
-                let report = calls.run(m, 1 + 2 * 250);
+                let report = calls.run(m, 1 + 2 * 250, &mut [0; 256]);
                 assert_eq!(report.stop, Stop::Fuel);
             };
             time_after(&mut m, reset, work) / 250.0
@@ -198,12 +204,12 @@ const MEASURES: &[Measure] = &[
         item: "call",
         seconds: |calls| {
             let mut m = calls.loaded(DRIVE, 256);
-            calls.run(&mut m, 1_000);
+            calls.run(&mut m, 1_000, &mut [0; 256]);
             let loaded = m.clone();
             let reset = |m: &mut Memories| m.heap.copy_from_slice(&loaded.heap);
             let work = |m: &mut Memories| {
                 for _ in 0..500 {
-                    assert_eq!(calls.run(m, 1).stop, Stop::Fuel);
+                    assert_eq!(calls.run(m, 1, &mut [0; 256]).stop, Stop::Fuel);
                 }
             };
             time_after(&mut m, reset, work) / 500.0
@@ -214,7 +220,7 @@ const MEASURES: &[Measure] = &[
         item: "call",
         seconds: |calls| {
             let mut m = calls.loaded(&long_source(), 256);
-            time(|| assert_eq!(calls.run(&mut m, 1).stop, Stop::Fuel))
+            time(|| assert_eq!(calls.run(&mut m, 1, &mut [0; 256]).stop, Stop::Fuel))
         },
     },
     Measure {
@@ -222,7 +228,7 @@ const MEASURES: &[Measure] = &[
         item: "call",
         seconds: |calls| {
             let mut m = calls.loaded(DRIVE, 256);
-            calls.run(&mut m, 100_000);
+            calls.run(&mut m, 100_000, &mut [0; 256]);
             time(|| {
                 let found = (calls.look)(&m.program, &m.heap, &m.literals, &m.texts, black_box(b"self.faults"));
                 assert_eq!(found, Ok(framed::Found::Integer(1)));
@@ -234,7 +240,7 @@ const MEASURES: &[Measure] = &[
         item: "call",
         seconds: |calls| {
             let mut m = calls.loaded(DRIVE, 256);
-            calls.run(&mut m, 1_000);
+            calls.run(&mut m, 1_000, &mut [0; 256]);
             time(|| {
                 (calls.collect)(&m.program, &mut m.heap, &m.literals, &m.texts).expect("whole memories");
             })

@@ -260,7 +260,7 @@ impl<'a> Machine<'a> {
 
     pub(crate) fn joined_length(&self, value: Value) -> Result<usize, End> {
         match value {
-            Value::Integer(n) => Ok(decimal(n, &mut [0; DECIMAL_BYTES]).len()),
+            Value::Integer(n) => Ok(decimal_length(n)),
             _ => self.text(value).map(<[u8]>::len).ok_or(End::NoRule),
         }
     }
@@ -385,6 +385,12 @@ fn arithmetic(v: Value, w: Value, f: impl Fn(i64, i64) -> Result<i64, End>) -> R
         return Err(End::NoRule);
     };
     i32::try_from(f(a.into(), b.into())?).map_err(|_| End::IntegerRange)
+}
+
+/// How many bytes the decimal integer has, found without its digits.
+fn decimal_length(n: i32) -> usize {
+    let digits = n.unsigned_abs().checked_ilog10().map_or(1, |k| k as usize + 1);
+    digits + usize::from(n < 0)
 }
 
 /// The decimal digits of an integer, with its sign.

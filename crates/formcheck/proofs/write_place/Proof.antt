@@ -12,14 +12,14 @@ abbrev μ-loop : tie.MeasureT-loop
 write-memory-requires : tie.Need-write-memory-requires Inv-loop μ-loop
 write-memory-requires c κs = search needs
 
-print-decimal-requires : tie.Need-print-decimal-requires Inv-loop μ-loop
-print-decimal-requires c κs = search needs
+put-number-requires : tie.Need-put-number-requires Inv-loop μ-loop
+put-number-requires c κs = search needs
 
-slice-aggregate-write : tie.Need-slice-aggregate-write Inv-loop μ-loop
-slice-aggregate-write c = search needs
+slice-aggregate-put : tie.Need-slice-aggregate-put Inv-loop μ-loop
+slice-aggregate-put c = search needs
 
-write-requires : tie.Need-write-requires Inv-loop μ-loop
-write-requires c κs = search needs
+put-requires : tie.Need-put-requires Inv-loop μ-loop
+put-requires c κs = search needs
 
 loop-holds : tie.Need-loop-holds Inv-loop μ-loop
 loop-holds c = search needs
@@ -42,11 +42,11 @@ loop-less c = search needs
 loop-again : tie.Need-loop-again Inv-loop μ-loop
 loop-again c = search needs
 
-slice-aggregate-write-2 : tie.Need-slice-aggregate-write-2 Inv-loop μ-loop
-slice-aggregate-write-2 c = search needs
+slice-aggregate-put-2 : tie.Need-slice-aggregate-put-2 Inv-loop μ-loop
+slice-aggregate-put-2 c = search needs
 
-write-requires-2 : tie.Need-write-requires-2 Inv-loop μ-loop
-write-requires-2 c κs = search needs
+put-requires-2 : tie.Need-put-requires-2 Inv-loop μ-loop
+put-requires-2 c κs = search needs
 
 returns : tie.Need-returns Inv-loop μ-loop
 returns c = search needs
@@ -58,9 +58,9 @@ write-place-spec =
     Inv-loop
     μ-loop
     write-memory-requires
-    print-decimal-requires
-    slice-aggregate-write
-    write-requires
+    put-number-requires
+    slice-aggregate-put
+    put-requires
     loop-holds
     mul-write-verdict
     array-read-write-verdict
@@ -68,6 +68,6 @@ write-place-spec =
     add-i
     loop-less
     loop-again
-    slice-aggregate-write-2
-    write-requires-2
+    slice-aggregate-put-2
+    put-requires-2
     returns)

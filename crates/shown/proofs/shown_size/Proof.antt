@@ -1,4 +1,5 @@
 use Rattle.shown.proofs.Laws.{size-int, size-text, size-code, size-frame}
+use mathlib.Core.Path.{refl}
 use borrow.Author.Needs.{needs}
 use Rattle.shown.proofs.shown_size.Statement.{statement}
 use Rattle.shown.proofs.shown_size.Tie as tie
@@ -10,10 +11,10 @@ returns-2 : tie.Need-returns-2
 returns-2 c = search size-text
 
 returns-3 : tie.Need-returns-3
-returns-3 c = search size-code
+returns-3 c = search (size-code, refl)
 
 returns-4 : tie.Need-returns-4
-returns-4 c = search size-frame
+returns-4 c = search (size-frame, refl)
 
 pub shown-size-spec : {M : Type 1} → statement M
 shown-size-spec =

@@ -1,19 +1,19 @@
-use Rattle.shown.proofs.Laws.{shows-int, shows-text, shows-code, shows-frame}
+use Rattle.shown.proofs.Laws.{size-int, size-bytes, size-code, size-frame, shows-int, shows-text, shows-code, shows-frame}
 use borrow.Author.Needs.{needs}
 use Rattle.shown.proofs.write_shown.Statement.{statement}
 use Rattle.shown.proofs.write_shown.Tie as tie
 
 returns : tie.Need-returns
-returns c = search (shows-int, needs)
+returns c = (search (shows-int, needs), (search (size-int, needs), search needs))
 
 returns-2 : tie.Need-returns-2
-returns-2 c = search shows-text
+returns-2 c = (search shows-text, (search size-bytes, search needs))
 
 returns-3 : tie.Need-returns-3
-returns-3 c = search shows-code
+returns-3 c = (search shows-code, (search size-code, search needs))
 
 returns-4 : tie.Need-returns-4
-returns-4 c = search shows-frame
+returns-4 c = (search shows-frame, (search size-frame, search needs))
 
 pub write-shown-spec : {M : Type 1} → statement M
 write-shown-spec =

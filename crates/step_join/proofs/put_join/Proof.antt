@@ -1,19 +1,7 @@
-use Rattle.step_join.proofs.Laws.{can-join, join-set, join-nowhere, join-full, join-put}
+use Rattle.step_join.proofs.Laws.{few, join-set, join-nowhere, join-full, join-put}
 use borrow.Author.Needs.{needs}
 use Rattle.step_join.proofs.put_join.Statement.{statement}
 use Rattle.step_join.proofs.put_join.Tie as tie
-use Rattle.step_join.proofs.put_join.Reads as reads
-use Rattle.step_join.proofs.put_join.Lts as lts
-use Rattle.commit.proofs.go_on.Reads as go-on-reads
-use Rattle.commit.proofs.root.Reads as root-reads
-use Rattle.commit.proofs.set_root.Reads as set-root-reads
-use Rattle.producing.proofs.join.Reads as join-reads
-use Rattle.puts.proofs.put_slot.Reads as put-slot-reads
-use Rattle.puts.proofs.put_target.Reads as put-target-reads
-use Rattle.puts.proofs.slot_end.Reads as slot-end-reads
-use Rattle.tables.proofs.instruction_a.Reads as instruction-a-reads
-use Rattle.tables.proofs.instruction_b.Reads as instruction-b-reads
-use Rattle.tables.proofs.instruction_kind.Reads as instruction-kind-reads
 
 instruction-kind-requires : tie.Need-instruction-kind-requires
 instruction-kind-requires c κs = search needs
@@ -24,8 +12,8 @@ instruction-a-requires c κs = search needs
 instruction-b-requires : tie.Need-instruction-b-requires
 instruction-b-requires c κs = search needs
 
-join-requires : tie.Need-join-requires
-join-requires c κs = (search can-join, search needs)
+make-text-requires : tie.Need-make-text-requires
+make-text-requires c κs = (search few, search needs)
 
 set-root-requires : tie.Need-set-root-requires
 set-root-requires c κs = search needs
@@ -40,7 +28,7 @@ same-length-2 : tie.Need-same-length-2
 same-length-2 c = search needs
 
 returns : tie.Need-returns
-returns c = join-set _ _ _ _ _ _ _ (c .before .before .before .before .before .before .before .before .before .before .before .before .before .before .before .before .before .before .before .before .before .before .before .pre .0) _ _ _ (c .before .before .before .before .before .before .before .before .before .before .before .before .before .before .before .before .before .before .instruction-kind .ensures) (c .before .before .before .before .before .before .before .before .before .before .before .before .before .before .before .before .before .instruction-a .ensures) (c .before .before .before .before .before .before .before .before .before .before .before .before .before .before .before .before .instruction-b .ensures) (c .before .before .before .before .before .before .before .before .before .before .before .before .before .before .before .if1 .taken) _ _ _ (c .before .before .before .before .before .before .before .before .before .before .before .before .join .ensures) _ (c .before .before .before .before .before .before .set-root .ensures) _ (c .before .before .go-on .ensures)
+returns c = join-set _ _ _ _ _ _ (c .before .before .before .before .before .before .before .before .before .before .before .before .before .before .before .before .before .before .before .before .before .before .before .before .pre .0) _ _ _ (c .before .before .before .before .before .before .before .before .before .before .before .before .before .before .before .before .before .before .instruction-kind .ensures) (c .before .before .before .before .before .before .before .before .before .before .before .before .before .before .before .before .before .instruction-a .ensures) (c .before .before .before .before .before .before .before .before .before .before .before .before .before .before .before .before .instruction-b .ensures) (c .before .before .before .before .before .before .before .before .before .before .before .before .before .before .before .if1 .taken) _ _ _ (c .before .before .before .before .before .before .before .before .before .before .before .before .make-text .ensures) _ (c .before .before .before .before .before .before .set-root .ensures) _ (c .before .before .go-on .ensures)
 
 root-requires : tie.Need-root-requires
 root-requires c κs = search needs
@@ -69,8 +57,8 @@ same-length-4 c = search needs
 returns-3 : tie.Need-returns-3
 returns-3 c = search join-full
 
-join-requires-2 : tie.Need-join-requires-2
-join-requires-2 c κs = (search can-join, search needs)
+make-text-requires-2 : tie.Need-make-text-requires-2
+make-text-requires-2 c κs = (search few, search needs)
 
 put-slot-requires : tie.Need-put-slot-requires
 put-slot-requires c κs = search needs
@@ -85,7 +73,7 @@ same-length-6 : tie.Need-same-length-6
 same-length-6 c = search needs
 
 returns-4 : tie.Need-returns-4
-returns-4 c = join-put _ _ _ _ _ _ _ (c .before .before .before .before .before .before .before .before .before .before .before .before .before .before .before .before .before .before .before .before .before .before .before .before .before .before .before .before .before .before .before .before .pre .0) _ _ _ (c .before .before .before .before .before .before .before .before .before .before .before .before .before .before .before .before .before .before .before .before .before .before .before .before .before .before .before .instruction-kind .ensures) (c .before .before .before .before .before .before .before .before .before .before .before .before .before .before .before .before .before .before .before .before .before .before .before .before .before .before .instruction-a .ensures) (c .before .before .before .before .before .before .before .before .before .before .before .before .before .before .before .before .before .before .before .before .before .before .before .before .before .instruction-b .ensures) (c .before .before .before .before .before .before .before .before .before .before .before .before .before .before .before .before .before .before .before .before .before .before .before .before .if1 .left) _ (c .before .before .before .before .before .before .before .before .before .before .before .before .before .before .before .before .before .before .before .before .before .before .root .ensures) _ (c .before .before .before .before .before .before .before .before .before .before .before .before .before .before .before .before .before .before .before .before .before .put-target .ensures) _ _ (c .before .before .before .before .before .before .before .before .before .before .before .before .before .before .before .before .before .before .before .f .given .1) _ (c .before .before .before .before .before .before .before .before .before .before .before .before .before .before .before .before .slot-end .ensures) (c .before .before .before .before .before .before .before .before .before .before .before .before .before .before .before .if2 .left) _ _ _ (c .before .before .before .before .before .before .before .before .before .before .before .before .join2 .ensures) _ (c .before .before .before .before .before .before .put-slot .ensures) _ (c .before .before .go-on2 .ensures)
+returns-4 c = join-put _ _ _ _ _ _ (c .before .before .before .before .before .before .before .before .before .before .before .before .before .before .before .before .before .before .before .before .before .before .before .before .before .before .before .before .before .before .before .before .before .pre .0) _ _ _ (c .before .before .before .before .before .before .before .before .before .before .before .before .before .before .before .before .before .before .before .before .before .before .before .before .before .before .before .instruction-kind .ensures) (c .before .before .before .before .before .before .before .before .before .before .before .before .before .before .before .before .before .before .before .before .before .before .before .before .before .before .instruction-a .ensures) (c .before .before .before .before .before .before .before .before .before .before .before .before .before .before .before .before .before .before .before .before .before .before .before .before .before .instruction-b .ensures) (c .before .before .before .before .before .before .before .before .before .before .before .before .before .before .before .before .before .before .before .before .before .before .before .before .if1 .left) _ (c .before .before .before .before .before .before .before .before .before .before .before .before .before .before .before .before .before .before .before .before .before .before .root .ensures) _ (c .before .before .before .before .before .before .before .before .before .before .before .before .before .before .before .before .before .before .before .before .before .put-target .ensures) _ _ (c .before .before .before .before .before .before .before .before .before .before .before .before .before .before .before .before .before .before .before .f .given .1) _ (c .before .before .before .before .before .before .before .before .before .before .before .before .before .before .before .before .slot-end .ensures) (c .before .before .before .before .before .before .before .before .before .before .before .before .before .before .before .if2 .left) _ _ _ (c .before .before .before .before .before .before .before .before .before .before .before .before .make-text2 .ensures) _ (c .before .before .before .before .before .before .put-slot .ensures) _ (c .before .before .go-on2 .ensures)
 
 pub put-join-spec : {M : Type 1} → statement M
 put-join-spec =
@@ -94,7 +82,7 @@ put-join-spec =
     instruction-kind-requires
     instruction-a-requires
     instruction-b-requires
-    join-requires
+    make-text-requires
     set-root-requires
     go-on-requires
     same-length
@@ -109,7 +97,7 @@ put-join-spec =
     slot-end-requires
     same-length-4
     returns-3
-    join-requires-2
+    make-text-requires-2
     put-slot-requires
     go-on-requires-2
     same-length-5

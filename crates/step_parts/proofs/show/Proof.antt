@@ -4,7 +4,6 @@ use Rattle.step_parts.proofs.show.Statement.{statement}
 use Rattle.step_parts.proofs.show.Tie as tie
 use Rattle.step_parts.proofs.show.Reads as reads
 use Rattle.step_parts.proofs.show.Lts as lts
-use Rattle.line.proofs.line_size.Reads as line-size-reads
 use Rattle.line.proofs.write_line.Reads as write-line-reads
 use Rattle.producing.proofs.given.Reads as given-reads
 use Rattle.tables.proofs.instruction_at.Reads as instruction-at-reads
@@ -21,20 +20,17 @@ returns c = search show-none
 given-requires : tie.Need-given-requires
 given-requires c κs = search needs
 
-line-size-requires : tie.Need-line-size-requires
-line-size-requires c κs = search needs
-
-sub-if1 : tie.Need-sub-if1
-sub-if1 c = search needs
-
-returns-2 : tie.Need-returns-2
-returns-2 c = search show-too-long
-
 write-line-requires : tie.Need-write-line-requires
 write-line-requires c κs = search needs
 
 same-length : tie.Need-same-length
 same-length c = search needs
+
+returns-2 : tie.Need-returns-2
+returns-2 c = search show-too-long
+
+same-length-2 : tie.Need-same-length-2
+same-length-2 c = search needs
 
 returns-3 : tie.Need-returns-3
 returns-3 c = search show-written
@@ -47,9 +43,8 @@ show-spec =
     enum-known-a
     returns
     given-requires
-    line-size-requires
-    sub-if1
-    returns-2
     write-line-requires
     same-length
+    returns-2
+    same-length-2
     returns-3)
