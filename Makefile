@@ -31,7 +31,7 @@ help:
 	@echo '  uninstall  takes them away again'
 	@echo
 	@echo 'Times on two cores: the library from nothing about 10 minutes, everything (check) about 12, the whole'
-	@echo 'gate (prove) about 30. Later checks only look at what changed.'
+	@echo 'gate (prove) about 35. Later checks only look at what changed.'
 	@echo 'examples, test and install take the library and the programs that are there, and build what is missing:'
 	@echo 'after a change make library, programs and command first.'
 
