@@ -1,29 +1,21 @@
--- What join_end and write_join mean: the end of `bounded`'s `operated`, and what the words hold once made text k is taken. Assumes nothing.
-use Prim.Native.Nat.{ℕ, _+_, _*_, _≤_, _<_}
-use mathlib.Core.Path.{_≡_, refl, _∙_, sym}
-use mathlib.Core.Logic.{_≢_}
+-- What join_end means: the end of `bounded`'s `operated`. Assumes nothing.
+use Prim.Native.Nat.{ℕ, _+_, _≤_, _<_}
+use mathlib.Core.Path.{_≡_, refl, sym}
 use mathlib.Core.Bool.{Bool, true, false, true≢false}
 use mathlib.Core.List.{List, _++_}
 use mathlib.Core.Option.{none, some}
 use native.Mathlib.Omega.{arith}
 use native.Mathlib.Decide.{decLt, decLe}
-use lib.ListN.{length, getD}
-use lib.Seq.{ext-getD}
+use lib.ListN.{length}
 use lib.Dec.{ltb}
 use borrow.Author.Tests.{lt-ltb, le-ltb, le-leb, lt-leb}
-use Rattle.words.specs.Words.{pick, word}
+use Rattle.words.specs.Words.{pick}
 use Rattle.framed.specs.declared.Value.{Value}
 use Rattle.framed.specs.Tokens.{Operator}
 use Rattle.framed.specs.Values.{shown, joined}
 use Rattle.framed.specs.Machine.{_>>=_, defined}
 use Rattle.bounded.specs.Operations.{measured, operated}
-use Rattle.heap.specs.Words.{text-byte}
-use Rattle.heap.specs.Lists.{listed}
 use Rattle.heap.specs.Held.{texts-held}
-use Rattle.heap.specs.Closed.{Sized}
-use Rattle.heap.proofs.Lists.{listed-length, listed-at}
-use Rattle.splice.specs.Splice.{splice}
-use Rattle.splice.proofs.Laws.{splice-here, splice-before, splice-behind}
 use Rattle.texts.specs.Literals.{literals-held}
 use Rattle.shown.specs.Shown.{shown-size}
 use Rattle.joining.specs.Joining.{joinable, join-end, join-result, join-bytes}
@@ -75,28 +67,7 @@ module _ (p l h t : List ℕ) (v w : Value) where
       first true ev = second (joinable w) refl ev
       first false ev = rw (joined-none lits made v ev, ev)
 
--- ---- What is held
-
-module _ (h t : List ℕ) (s : Sized h) (size : length t ≡ 16384) (k : ℕ) (hk : k < 256) (bs : List ℕ) (le : length bs ≤ 64) where
-  spliced : List ℕ
-  spliced = splice t (64 * k) bs
-
-  here : listed (text-byte spliced k) (length bs) ≡ bs
-  unfolding text-byte word spliced
-  here =
-      ext-getD 0 (listed (text-byte spliced k) (length bs)) bs (listed-length (text-byte spliced k) (length bs))
-      (λ i lt. listed-at (text-byte spliced k) (length bs) i 0 (let n = listed-length (text-byte spliced k) (length bs) in omega arith)
-      ∙ splice-here t (64 * k) bs i (let n = listed-length (text-byte spliced k) (length bs) in omega arith) (let n = listed-length (text-byte spliced k) (length bs) in omega arith))
-
-  away : (j i : ℕ) → j ≢ k → i < 64 → text-byte spliced j i ≡ text-byte t j i
-  unfolding text-byte word spliced
-  away j i ne lt = go (decLt j k)
-    where
-      go : Dec (j < k) → getD (splice t (64 * k) bs) (64 * j + i) 0 ≡ getD t (64 * j + i) 0
-      go (yes l) = splice-before t (64 * k) bs (64 * j + i) (omega arith)
-      go (no g) = splice-behind t (64 * k) bs (64 * j + i) (omega arith)
-
--- where `#` has no end: the joined bytes have at most 64, and made text k then has them
+-- where `#` has no end, the joined bytes are at most 64
 module _ (p l h t : List ℕ) (v w : Value) (none : join-end p h v w ≡ 0) where
   pub join-fits : shown-size p h v + shown-size p h w ≤ 64
   unfolding join-end

@@ -1,11 +1,11 @@
 -- What a splice keeps and what it writes, and the loop that writes it. Assumes nothing.
-use Prim.Native.Nat.{ℕ, zero, suc, _+_, _-_, _≤_, _<_}
+use Prim.Native.Nat.{ℕ, suc, _+_, _-_, _≤_, _<_}
 use mathlib.Core.Path.{_≡_, refl, _∙_, ap, sym}
 use mathlib.Core.List.{List, [], _∷_, _++_}
 use native.Mathlib.Omega.{arith}
 use native.Mathlib.Numerals.{add-one}
 use lib.ListN.{length, getD, set, take, drop, length-set, drop-of-length-le, take-append-drop}
-use lib.Seq.{length-take-le, drop-cons, set-out, getD-set-same, getD-set-other, length-sets, sets-eq}
+use lib.Seq.{length-take-le, drop-cons, set-out, length-sets, sets-eq}
 use Rattle.splice.specs.Splice.{splice}
 
 -- ---- What callers cite
@@ -35,28 +35,6 @@ splice-append m at (a ∷ cs) bs = splice-append (set m at a) (suc at) cs bs ∙
   where
     one-more : (k n : ℕ) → suc k + n ≡ k + suc n
     one-more k n = omega arith
-
--- what is read there, and elsewhere
-pub splice-before : (m : List ℕ) (at : ℕ) (bs : List ℕ) (k : ℕ) → k < at → getD (splice m at bs) k 0 ≡ getD m k 0
-unfolding splice
-splice-before m at [] k lt = refl
-splice-before m at (b ∷ bs) k lt = splice-before (set m at b) (suc at) bs k (omega arith) ∙ getD-set-other m at k b 0 (omega arith)
-
-pub splice-behind : (m : List ℕ) (at : ℕ) (bs : List ℕ) (k : ℕ) → at + length bs ≤ k → getD (splice m at bs) k 0 ≡ getD m k 0
-unfolding splice
-splice-behind m at [] k le = refl
-splice-behind m at (b ∷ bs) k le = splice-behind (set m at b) (suc at) bs k (omega arith) ∙ getD-set-other m at k b 0 (omega arith)
-
-pub splice-here : (m : List ℕ) (at : ℕ) (bs : List ℕ) (i : ℕ) → i < length bs → at + i < length m → getD (splice m at bs) (at + i) 0 ≡ getD bs i 0
-unfolding splice
-splice-here m at [] i lt l = absurd (omega arith)
-splice-here m at (b ∷ bs) zero lt l =
-    let e : at + 0 ≡ at = omega arith in
-    rw e (splice-before (set m at b) (suc at) bs at (omega arith) ∙ getD-set-same m at b 0 (omega arith))
-splice-here m at (b ∷ bs) (suc i) lt l =
-    let e : at + suc i ≡ suc at + i = omega arith in
-    let s = length-set m at b in
-    rw e (splice-here (set m at b) (suc at) bs i (omega arith) (omega arith))
 
 -- what is past the buffer's end is dropped
 pub splice-front : (m : List ℕ) (at : ℕ) (bs : List ℕ) → at ≤ length m → length m - at < length bs → splice m at (take (length m - at) bs) ≡ splice m at bs
