@@ -113,43 +113,43 @@ fn well_formed_with(made: &[u8], memory: u32, place: u32, value: u32) -> bool {
 fn write_verdict(made: &[u8], memory: u32, place: u32, value: u32) {
     if 1 < memory {
         if 255 < value {
-            output::put(b"-");
+            print_output::put(b"-");
             return;
         }
     }
     if well_formed_with(made, memory, place, value) {
-        output::put(b"1");
+        print_output::put(b"1");
         return;
     }
-    output::put(b"0");
+    print_output::put(b"0");
 }
 
 fn write_memory(memory: u32) {
     if memory == 0 {
-        output::put(b"program ");
+        print_output::put(b"program ");
         return;
     }
     if memory == 1 {
-        output::put(b"heap ");
+        print_output::put(b"heap ");
         return;
     }
     if memory == 2 {
-        output::put(b"literal ");
+        print_output::put(b"literal ");
         return;
     }
-    output::put(b"text ");
+    print_output::put(b"text ");
 }
 
 fn write_place(made: &[u8], memory: u32, place: u32) {
     write_memory(memory);
-    output::put_number(place);
-    output::put(b" ");
+    print_output::put_number(place);
+    print_output::put(b" ");
     let mut i: usize = 0;
     while i < 22 {
         write_verdict(made, memory, place, VALUES[i]);
         i += 1;
     }
-    output::put(b"\n");
+    print_output::put(b"\n");
 }
 
 fn write_places(made: &[u8], places: &[u8]) {
@@ -184,8 +184,8 @@ fn main() {
     let n = read_file(b"made", &mut made);
     let mut places = io::large_buffer();
     let k = read_file(b"places", &mut places);
-    output::put(b"as made ");
+    print_output::put(b"as made ");
     write_verdict(&made[..n], 0, 16383, 0);
-    output::put(b"\n");
+    print_output::put(b"\n");
     write_places(&made[..n], &places[..k]);
 }

@@ -3,7 +3,7 @@ use input::Input;
 
 fn print_run(source: &[u8]) {
     let mut out = [0u8; 4140];
-    output::put(printed_run::print(source, &mut out));
+    print_output::put(printed_run::print(source, &mut out));
 }
 
 fn run_file(name: &[u8]) {
@@ -12,8 +12,8 @@ fn run_file(name: &[u8]) {
         os::fail(name);
         return;
     };
-    output::put(name);
-    output::put(b"\n");
+    print_output::put(name);
+    print_output::put(b"\n");
     print_run(printing::front(&source, n));
 }
 

@@ -9,5 +9,5 @@ fn main() {
         return;
     };
     let mut out = [0u8; 4140];
-    output::put(printed_run::print(printing::front(&source, n), &mut out));
+    print_output::put(printed_run::print(printing::front(&source, n), &mut out));
 }

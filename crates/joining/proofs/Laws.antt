@@ -5,7 +5,7 @@ use mathlib.Core.Bool.{Bool, true, false, not}
 use mathlib.Core.List.{List}
 use native.Mathlib.Omega.{arith}
 use lib.ListN.{length, take, drop, length-append}
-use lib.Seq.{take-at}
+use lib.Seq.{take-at, length-take-le}
 use borrow.Author.Tests.{lt-ltb, le-ltb}
 use Rattle.framed.specs.declared.Value.{Value}
 use Rattle.framed.specs.Values.{shown}
@@ -59,7 +59,10 @@ module _ (p l h t : List ℕ) (v w : Value) (a : ℕ) (ea : a ≡ shown-size p h
   pub filled-size : (b : ℕ) → b ≡ shown-size p h w → a + b ≡ shown-size p h v + shown-size p h w
   filled-size b eb = rw (ea, eb)
 
--- the front of a buffer of 64 bytes that was filled, where they all fit
+-- the front of a buffer of 64 bytes: its size, and what it is where the buffer was filled
+pub front-size : (n : ℕ) (m : List ℕ) → n ≤ 64 → length m ≡ 64 → n ≡ length (take n m)
+front-size n m le size = sym (length-take-le n m (omega arith))
+
 pub filled-front : (p l h t : List ℕ) (v w : Value) (n : ℕ) → n ≡ shown-size p h v + shown-size p h w → n ≤ 64
     → (m m′ : List ℕ) → length m ≡ 64 → m′ ≡ splice m 0 (join-bytes (literals-held p l) (texts-held h t) v w) → take n m′ ≡ join-bytes (literals-held p l) (texts-held h t) v w
 filled-front p l h t v w n en le m m′ size e =

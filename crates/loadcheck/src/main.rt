@@ -3,8 +3,8 @@ ghost use lib.ListN.{length};
 ghost use Rattle.loadcheck.specs.Lines.{Begins, Ends};
 
 fn print_count(word: &[u8], n: u32) {
-    output::put(word);
-    output::put_number(n);
+    print_output::put(word);
+    print_output::put_number(n);
 }
 
 // The counts in program words and, of the written frames, in heap words: all frames in use but self.
@@ -20,14 +20,14 @@ fn print_counts(p: &[u32], h: &[u32]) {
 }
 
 fn print_answer(name: &[u8], n: u32, p: &[u32], h: &[u32]) {
-    output::put(name);
+    print_output::put(name);
     if n == 0 {
         print_counts(p, h);
     } else {
-        output::put(b" refused ");
-        output::put_number(n);
+        print_output::put(b" refused ");
+        print_output::put_number(n);
     }
-    output::put(b"\n");
+    print_output::put(b"\n");
 }
 
 fn load_source(name: &[u8], source: &[u8]) {

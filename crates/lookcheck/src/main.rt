@@ -76,25 +76,25 @@ fn make(made: &[u8], p: &mut [u32], h: &mut [u32], l: &mut [u8], t: &mut [u8]) {
 fn write_answer(a: LookAnswer) {
     match a {
         LookAnswer::Integer(n) => {
-            output::put(b"integer ");
-            output::put_integer(n);
+            print_output::put(b"integer ");
+            print_output::put_integer(n);
         }
-        LookAnswer::Text => output::put(b"text"),
-        LookAnswer::Code => output::put(b"code"),
-        LookAnswer::Frame => output::put(b"frame"),
-        LookAnswer::NotWellFormed => output::put(b"20"),
-        LookAnswer::NotPath => output::put(b"21"),
-        LookAnswer::Undefined => output::put(b"22"),
+        LookAnswer::Text => print_output::put(b"text"),
+        LookAnswer::Code => print_output::put(b"code"),
+        LookAnswer::Frame => print_output::put(b"frame"),
+        LookAnswer::NotWellFormed => print_output::put(b"20"),
+        LookAnswer::NotPath => print_output::put(b"21"),
+        LookAnswer::Undefined => print_output::put(b"22"),
     }
 }
 
 fn write_look<'a>(p: &[u32], h: &[u32], l: &'a [u8], t: &'a [u8], path: &[u8]) {
-    output::put(path);
-    output::put(b" is ");
+    print_output::put(path);
+    print_output::put(b" is ");
     write_answer(look::look(p, h, l, t, path));
-    output::put(b" \"");
-    output::put(look::look_text(p, h, l, t, path));
-    output::put(b"\"\n");
+    print_output::put(b" \"");
+    print_output::put(look::look_text(p, h, l, t, path));
+    print_output::put(b"\"\n");
 }
 
 // Where a line ends.
@@ -127,11 +127,11 @@ fn write_looks<'a>(p: &[u32], h: &[u32], l: &'a [u8], t: &'a [u8], paths: &[u8])
 // As the memories are, then with another self.
 fn look_thrice<'a>(p: &[u32], h: &mut [u32], l: &'a [u8], t: &'a [u8], paths: &[u8]) {
     write_looks(p, h, l, t, paths);
-    output::put(b"self is an integer\n");
+    print_output::put(b"self is an integer\n");
     words::set_word(h, 0, 0);
     words::set_word(h, 1, 5);
     write_looks(p, h, l, t, paths);
-    output::put(b"self is a frame that is not in use\n");
+    print_output::put(b"self is a frame that is not in use\n");
     words::set_word(h, 0, 4);
     words::set_word(h, 1, 3);
     write_looks(p, h, l, t, paths);

@@ -119,8 +119,20 @@ unfolding refused-line bytes
 refused-appended n a b c = joined a (joined b c)
 
 -- append_shows
-pub shows-near : {m m′ : List ℕ} {r : ℕ} (shown f : List ℕ) → length f ≤ length shown → length shown ≡ 4096 → Appends m 0 f m′ r → r ≤ 4096
-shows-near shown f h e x = let q = x .behind in omega arith
+module _ (n : ℕ) (shown f : List ℕ) (i : f ≡ take n shown) (e : length shown ≡ 4096) where
+  short : length f ≤ 4096
+  short = rw (i, length-take n shown, e) (min-le-right n 4096)
+
+  pub shows-fit : 0 + length f ≤ 9000
+  shows-fit =
+      let s = short in
+      omega arith
+
+  pub shows-near : {m m′ : List ℕ} {r : ℕ} → Appends m 0 f m′ r → r ≤ 4096
+  shows-near x =
+      let s = short in
+      let q = x .behind in
+      omega arith
 
 pub shows-appended : {m m′ : List ℕ} {r : ℕ} (n : ℕ) (shown f : List ℕ) → f ≡ take n shown → Appends m 0 f m′ r → Appends m 0 (take n shown) m′ r
 shows-appended {m} {m′} {r} n shown f i x = subst (λ (bs : List ℕ). Appends m 0 bs m′ r) i x
@@ -138,6 +150,3 @@ front-all n m h = sym (take-all n m (omega arith))
 
 pub front-size : (n : ℕ) (m : List ℕ) → n ≤ length m → n ≡ length (take n m)
 front-size n m h = sym (length-take-le n m h)
-
-pub front-short : (n : ℕ) (m : List ℕ) → length (take n m) ≤ length m
-front-short n m = rw (length-take n m) (min-le-right n (length m))

@@ -89,8 +89,7 @@ pub fn print_refused(m: &mut [u8], n: u32) -> usize
 
 // The first n bytes, or all where there are fewer.
 pub fn front<'a>(m: &'a [u8], n: usize) -> &'a [u8]
-    ensures taken { λ r. ⌜ now r ≡ take n (now (m .entry)) ⌝ }
-    ensures short { λ r. ⌜ length (now r) ≤ length (now (m .entry)) ⌝ }
+    ensures { λ r. ⌜ now r ≡ take n (now (m .entry)) ⌝ }
 {
     if m.len() < n {
         return m;

@@ -1,12 +1,11 @@
 -- What each way through the functions gives. Assumes nothing.
 use Prim.Native.Nat.{ℕ, _+_, _*_, _≤_}
-use mathlib.Core.Path.{_≡_, _∙_, ap, sym}
+use mathlib.Core.Path.{_≡_, _∙_, ap}
 use mathlib.Core.Bool.{Bool, true, false}
 use mathlib.Core.List.{List, [], _∷_}
 use native.Mathlib.Omega.{arith}
 use lib.IntN.{ℤ, pos}
 use lib.ListN.{length, take}
-use lib.Seq.{length-take-le}
 use types.Run.{OneOf, miss}
 use denote.Enum.Declared.{tagOf}
 use borrow.Author.Tests.{le-ltb}
@@ -29,7 +28,7 @@ use Rattle.texts.specs.Texts.{Readable}
 use Rattle.splice.specs.Splice.{splice}
 use Rattle.shown.specs.Shown.{shown-size}
 use Rattle.joining.specs.Joining.{join-bytes, join-written}
-use Rattle.joining.proofs.Laws.{join-length, filled-front}
+use Rattle.joining.proofs.Laws.{join-length, front-size, filled-front}
 use Rattle.bounded.specs.Operations.{Product, text, operated}
 use Rattle.bounded.specs.Bounded.{value-given, produce}
 use Rattle.word_store.specs.Store.{word-store}
@@ -111,14 +110,11 @@ module _ (p l h t : List ℕ) (v w : Value) (can : CanJoin p l h t v w) where
 
   -- join
   module _ (n : ℕ) (en : n ≡ shown-size p h v + shown-size p h w) where
-    few : n ≤ 64
+    pub few : n ≤ 64
     few = let s = can .short in omega arith
 
-    pub taken : (bs : List ℕ) → length bs ≡ 64 → n ≡ length (take n bs)
-    taken bs s = let f = few in sym (length-take-le n bs (omega arith))
-
     pub filled-few : (bs : List ℕ) → length bs ≡ 64 → length (take n bs) ≤ 64
-    filled-few bs s = let f = few in let t = taken bs s in omega arith
+    filled-few bs s = let f = few in let t = front-size n bs f s in omega arith
 
     pub joins-filled : (buf buf′ : List ℕ) → length buf ≡ 64 → buf′ ≡ splice buf 0 (join-bytes (literals-held p l) (texts-held h t) v w)
         → (r : Value) (h′ t′ : List ℕ) → MakesText h t (take n buf′) r h′ t′ → Joins p l h t v w r h′ t′

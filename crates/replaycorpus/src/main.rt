@@ -7,8 +7,8 @@ fn replay_file(name: &[u8]) {
         os::fail(name);
         return;
     };
-    output::put(name);
-    output::put(b"\n");
+    print_output::put(name);
+    print_output::put(b"\n");
     replaying::replay(printing::front(&script, n));
 }
 

@@ -2,16 +2,8 @@
 use mathlib.Core.Path.{_≡_}
 use mathlib.Core.List.{List}
 use Prim.Native.Nat.{ℕ, _≤_}
-use native.Mathlib.Nat.{min-le-left}
-use native.Mathlib.Omega.{arith}
-use lib.ListN.{length, take, length-take}
+use lib.ListN.{length, take}
 use Rattle.printing.proofs.Laws.{front-size}
 
 pub front-of : (n k : ℕ) (m : List ℕ) → n ≤ k → k ≡ length m → n ≡ length (take n m)
 front-of n k m h e = front-size n m (rw (← e) h)
-
-pub front-within : (n k : ℕ) (m : List ℕ) → n ≤ k → length (take n m) ≤ k
-front-within n k m h =
-    let e = length-take n m in
-    let l = min-le-left n (length m) in
-    omega arith

@@ -8,27 +8,25 @@ use input::Input;
 use script::Call;
 use script::Script;
 use token::TokenRead;
-ghost use Prim.Native.Nat.{_≤_};
-ghost use lib.ListN.{length};
 
 fn put_refused(n: u32) {
-    output::put(b"refused ");
-    output::put_number(n);
-    output::put(b"\n");
+    print_output::put(b"refused ");
+    print_output::put_number(n);
+    print_output::put(b"\n");
 }
 
 // What cannot be taken is printed behind a `?`.
 pub fn put_unfit(text: &[u8]) {
-    output::put(b"? ");
-    output::put(text);
-    output::put(b"\n");
+    print_output::put(b"? ");
+    print_output::put(text);
+    print_output::put(b"\n");
 }
 
 // ---- The calls. A call answers whether the script goes on.
 
 fn put_loaded(number: u32) {
     if number == 0 {
-        output::put(b"loaded\n");
+        print_output::put(b"loaded\n");
         return;
     }
     put_refused(number);
@@ -57,29 +55,27 @@ fn load_call(
 
 fn put_stop(number: u32) {
     if number == 1 {
-        output::put(b"fuel");
+        print_output::put(b"fuel");
         return;
     }
     if number == 2 {
-        output::put(b"output");
+        print_output::put(b"output");
         return;
     }
-    output::put_number(number);
+    print_output::put_number(number);
 }
 
-fn put_report(out: &[u8], report: RunReport)
-    requires { ⌜ length (now out) ≤ 4096 ⌝ }
-{
-    let text = printing::front(out, report.bytes);
-    output::put(text);
-    output::put(b"run ");
+fn put_report(out: &[u8], report: RunReport) {
+    let n = report.bytes;
+    print_output::put(printing::front(out, n));
+    print_output::put(b"run ");
     let stop = report.stop;
     put_stop(answers::stop_number(stop));
-    output::put(b" steps ");
-    output::put_number(report.steps);
-    output::put(b" bytes ");
-    output::put_number(text.len() as u32);
-    output::put(b"\n");
+    print_output::put(b" steps ");
+    print_output::put_number(report.steps);
+    print_output::put(b" bytes ");
+    print_output::put_size(n);
+    print_output::put(b"\n");
 }
 
 fn run_slice(
@@ -89,9 +85,7 @@ fn run_slice(
     t: &mut [u8; 16384],
     fuel: u32,
     out: &mut [u8],
-)
-    requires { ⌜ length (now out) ≤ 4096 ⌝ }
-{
+) {
     let answer = run::run(p, h, l, t, fuel, out);
     match answer {
         RunAnswer::Stopped(report) => put_report(out, report),
@@ -122,24 +116,24 @@ fn collect_call(p: &[u32; 16384], h: &mut [u32; 16384], l: &[u8; 8192], t: &[u8;
         put_refused(answers::collect_number(answer));
         return true;
     };
-    output::put(b"collect frames ");
-    output::put_number(totals.frames);
-    output::put(b" texts ");
-    output::put_number(totals.texts);
-    output::put(b"\n");
+    print_output::put(b"collect frames ");
+    print_output::put_number(totals.frames);
+    print_output::put(b" texts ");
+    print_output::put_number(totals.texts);
+    print_output::put(b"\n");
     true
 }
 
 fn put_integer(n: i32) {
-    output::put(b"look integer ");
-    output::put_integer(n);
-    output::put(b"\n");
+    print_output::put(b"look integer ");
+    print_output::put_integer(n);
+    print_output::put(b"\n");
 }
 
 fn put_text(text: &[u8]) {
-    output::put(b"look text ");
-    output::put(text);
-    output::put(b"\n");
+    print_output::put(b"look text ");
+    print_output::put(text);
+    print_output::put(b"\n");
 }
 
 fn look_call<'a>(
@@ -153,26 +147,28 @@ fn look_call<'a>(
     match answer {
         LookAnswer::Integer(n) => put_integer(n),
         LookAnswer::Text => put_text(look::look_text(p, h, l, t, path)),
-        LookAnswer::Code => output::put(b"look code\n"),
-        LookAnswer::Frame => output::put(b"look frame\n"),
+        LookAnswer::Code => print_output::put(b"look code\n"),
+        LookAnswer::Frame => print_output::put(b"look frame\n"),
         _ => put_refused(answers::look_number(answer)),
     }
     true
 }
 
-fn put_written(text: &[u8])
-    requires { ⌜ length (now text) ≤ 32768 ⌝ }
-{
-    output::put(b"write bytes ");
-    output::put_number(text.len() as u32);
-    output::put(b" ");
-    output::put(text);
-    output::put(b"\n");
+fn put_written(text: &[u8]) {
+    print_output::put(b"write bytes ");
+    print_output::put_size(text.len());
+    print_output::put(b" ");
+    print_output::put(text);
+    print_output::put(b"\n");
 }
 
-fn write_slice(p: &[u32; 16384], h: &[u32; 16384], l: &[u8; 8192], t: &[u8; 16384], out: &mut [u8])
-    requires { ⌜ length (now out) ≤ 32768 ⌝ }
-{
+fn write_slice(
+    p: &[u32; 16384],
+    h: &[u32; 16384],
+    l: &[u8; 8192],
+    t: &[u8; 16384],
+    out: &mut [u8],
+) {
     let answer = write::write(p, h, l, t, out);
     match answer {
         WriteAnswer::Written(n) => put_written(printing::front(out, n)),

@@ -1,4 +1,4 @@
-// What `show` writes of a value, without byte 10: how many bytes, and the bytes. `#` joins the same bytes of integers and texts.
+// What is shown of a value, without byte 10, as `#` joins it: how many bytes, and the bytes.
 use framed::Value;
 ghost use mathlib.Core.Path.{_≡_};
 ghost use Prim.Native.Nat.{_^_, _<_};

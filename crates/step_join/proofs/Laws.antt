@@ -7,7 +7,6 @@ use native.Mathlib.Omega.{arith}
 use native.Mathlib.Decide.{decLt}
 use lib.Dec.{eqb}
 use lib.ListN.{length, take, getElem?}
-use lib.Seq.{length-take-le}
 use types.Run.{hit}
 use borrow.Author.Tests.{eqb-true, le-leb, lt-leb}
 use Rattle.framed.specs.declared.Value.{Value}
@@ -183,7 +182,7 @@ module _ (p l h t : List ℕ) (i : ℕ) (v w : Value) (on : JoinsValues p l h t 
   values-ended : (e : ℕ) → e ≡ join-end p h v w → (e ≡ 0 → ⊥) → JoinsOnce p l h t i e h t
   values-ended e ee = value-ended p l h t i (on .can) e (met e ee)
 
-  pub readable : Readable p l h t
+  readable : Readable p l h t
   readable = on .can .checks .memories .readable
 
   module _ (b : Bool) (eb : b ≡ joinable v) where
@@ -198,18 +197,14 @@ module _ (p l h t : List ℕ) (i : ℕ) (v w : Value) (on : JoinsValues p l h t 
         pub long-ended : 64 < n → JoinsOnce p l h t i 34 h t
         long-ended lt = values-ended 34 (end-long p h v w b eb one c ec two _ _ _ _ refl refl refl refl (omega arith)) (λ q. omega arith)
 
-        module _ (le : n ≤ 64) where
-          pub taken : (bs : List ℕ) → length bs ≡ 64 → n ≡ length (take n bs)
-          taken bs s = sym (length-take-le n bs (omega arith))
-
-          pub can-put : (m m′ : List ℕ) → length m ≡ 64 → m′ ≡ splice m 0 (join-bytes (literals-held p l) (texts-held h t) v w) → CanPutJoin p l h t i (take n m′)
-          can-put m m′ size e = record {
-            left = v;
-            right = w;
-            values = on;
-            end = end-none p h v w b eb one c ec two _ _ _ _ refl refl refl refl (omega arith);
-            bytes = filled-front p l h t v w n en le m m′ size e;
-          }
+        pub can-put : n ≤ 64 → (m m′ : List ℕ) → length m ≡ 64 → m′ ≡ splice m 0 (join-bytes (literals-held p l) (texts-held h t) v w) → CanPutJoin p l h t i (take n m′)
+        can-put le m m′ size e = record {
+          left = v;
+          right = w;
+          values = on;
+          end = end-none p h v w b eb one c ec two _ _ _ _ refl refl refl refl (omega arith);
+          bytes = filled-front p l h t v w n en le m m′ size e;
+        }
 
 -- ---- put_join
 

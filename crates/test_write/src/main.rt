@@ -1,8 +1,6 @@
 // Writes programs that no source has, so that the gate shows them answered at once: a text of more than 2^60 bytes, the same program with few levels, and frames in
 // frames as deep as there are expressions. Each is made from a loaded program, a word at a time.
 use framed::WriteAnswer;
-ghost use Prim.Native.Nat.{_≤_};
-ghost use lib.ListN.{length};
 
 // The words of expression x, or of instruction i, from a place on: kind, first and second number.
 fn set_entry(p: &mut [u32], place: usize, kind: u32, a: u32, b: u32) {
@@ -54,21 +52,19 @@ fn nest_all(p: &mut [u32; 16384]) {
 }
 
 // A text as it is, or the first and the last bytes of a long one.
-fn put_text(text: &[u8])
-    requires { ⌜ length (now text) ≤ 32768 ⌝ }
-{
+fn put_text(text: &[u8]) {
     let n = text.len();
-    output::put_number(n as u32);
-    output::put(b" bytes: ");
+    print_output::put_size(n);
+    print_output::put(b" bytes: ");
     if n <= 400 {
-        output::put(text);
-        output::put(b"\n");
+        print_output::put(text);
+        print_output::put(b"\n");
         return;
     }
-    output::put(printing::front(text, 100));
-    output::put(b" .. ");
-    output::put(&text[n - 100..]);
-    output::put(b"\n");
+    print_output::put(printing::front(text, 100));
+    print_output::put(b" .. ");
+    print_output::put(&text[n - 100..]);
+    print_output::put(b"\n");
 }
 
 fn put_written(p: &[u32; 16384], h: &[u32; 16384], l: &[u8; 8192], t: &[u8; 16384]) {
@@ -77,9 +73,9 @@ fn put_written(p: &[u32; 16384], h: &[u32; 16384], l: &[u8; 8192], t: &[u8; 1638
     match answer {
         WriteAnswer::Written(n) => put_text(printing::front(&out, n)),
         _ => {
-            output::put(b"refused ");
-            output::put_number(answers::write_number(answer));
-            output::put(b"\n");
+            print_output::put(b"refused ");
+            print_output::put_number(answers::write_number(answer));
+            print_output::put(b"\n");
         }
     }
 }
@@ -92,7 +88,7 @@ fn write_deep(source: &[u8], levels: u32) {
     let mut t = [0u8; 16384];
     let answer = load::load(source, 8, 8, &mut p, &mut h, &mut l, &mut t);
     if answers::load_number(answer) != 0 {
-        output::put(b"not loaded\n");
+        print_output::put(b"not loaded\n");
         return;
     }
     if levels == 0 {

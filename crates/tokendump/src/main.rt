@@ -1,32 +1,25 @@
 // Writes the tokens of each source that its arguments name: kind, begin, end, bytes and, of an integer, the number; then the number
 // that refuses the source as tokens, or 0.
 use token::TokenRead;
-ghost use Prim.Native.Nat.{_≤_};
-ghost use lib.ListN.{length};
 
-fn write_token(s: &[u8], kind: u32, begin: usize, end: usize, word: u32)
-    requires { ⌜ begin ≤ end ⌝ }
-    requires { ⌜ end ≤ 65536 ⌝ }
-{
-    output::put_number(kind);
-    output::put(b" ");
-    output::put_number(begin as u32);
-    output::put(b" ");
-    output::put_number(end as u32);
-    output::put(b" ");
+fn write_token(s: &[u8], kind: u32, begin: usize, end: usize, word: u32) {
+    print_output::put_number(kind);
+    print_output::put(b" ");
+    print_output::put_size(begin);
+    print_output::put(b" ");
+    print_output::put_size(end);
+    print_output::put(b" ");
     let bytes = token::token_bytes(s, begin, end);
-    output::put(bytes);
+    print_output::put(bytes);
     if kind == 26 {
-        output::put(b" ");
-        output::put_integer(ints::int_of(word));
+        print_output::put(b" ");
+        print_output::put_integer(ints::int_of(word));
     }
-    output::put(b"\n");
+    print_output::put(b"\n");
 }
 
 // The tokens of a source, up to its end or to bytes that form none.
-fn write_tokens(s: &[u8])
-    requires { ⌜ length (now s) ≤ 65536 ⌝ }
-{
+fn write_tokens(s: &[u8]) {
     let t = source::classes();
     let mut at = 0;
     while at < s.len() {
@@ -37,7 +30,7 @@ fn write_tokens(s: &[u8])
                 return;
             }
             TokenRead::NoToken => {
-                output::put(b"no token\n");
+                print_output::put(b"no token\n");
                 return;
             }
             TokenRead::Token(kind, begin, end, word) => {
@@ -71,12 +64,12 @@ fn dump(path: &[u8]) {
     let mut buf = io::large_buffer();
     let n = io::read_full(fd, &mut buf);
     libc::close(fd);
-    output::put(path);
-    output::put(b"\n");
+    print_output::put(path);
+    print_output::put(b"\n");
     write_tokens(&buf[..n]);
-    output::put(b"refused ");
-    output::put_number(refused(&buf[..n]));
-    output::put(b"\n");
+    print_output::put(b"refused ");
+    print_output::put_number(refused(&buf[..n]));
+    print_output::put(b"\n");
 }
 
 fn dump_argument(i: usize) {

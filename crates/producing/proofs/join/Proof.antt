@@ -1,4 +1,5 @@
-use Rattle.producing.proofs.Laws.{taken, filled-few, joins-filled}
+use Rattle.joining.proofs.Laws.{front-size}
+use Rattle.producing.proofs.Laws.{few, filled-few, joins-filled}
 use borrow.Author.Needs.{needs}
 use Rattle.producing.proofs.join.Statement.{statement}
 use Rattle.producing.proofs.join.Tie as tie
@@ -13,7 +14,7 @@ array-share-prefix-bytes : tie.Need-array-share-prefix-bytes
 array-share-prefix-bytes c = search needs
 
 slice-aggregate-make-text : tie.Need-slice-aggregate-make-text
-slice-aggregate-make-text c = search (taken, needs)
+slice-aggregate-make-text c = search (front-size, few, needs)
 
 make-text-requires : tie.Need-make-text-requires
 make-text-requires c κs = (search (filled-few, needs), search needs)

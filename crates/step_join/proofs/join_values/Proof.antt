@@ -1,5 +1,6 @@
 use native.Mathlib.Omega.{arith}
-use Rattle.step_join.proofs.Laws.{first-ended, second-ended, long-ended, taken, can-put}
+use Rattle.joining.proofs.Laws.{front-size}
+use Rattle.step_join.proofs.Laws.{first-ended, second-ended, long-ended, can-put}
 use borrow.Author.Needs.{needs}
 use Rattle.step_join.proofs.join_values.Statement.{statement}
 use Rattle.step_join.proofs.join_values.Tie as tie
@@ -35,7 +36,7 @@ array-share-prefix-bytes : tie.Need-array-share-prefix-bytes
 array-share-prefix-bytes c = search needs
 
 slice-aggregate-put-join : tie.Need-slice-aggregate-put-join
-slice-aggregate-put-join c = search (taken, needs)
+slice-aggregate-put-join c = front-size _ _ (omega arith) (search needs)
 
 put-join-requires : tie.Need-put-join-requires
 put-join-requires c κs =

@@ -1,4 +1,4 @@
-// What the programs write to standard output: bytes, numbers and integers.
+// What the programs print: bytes, numbers and integers, to standard output.
 use libc::STDOUT_FILENO;
 
 pub fn put(text: &[u8]) {
@@ -12,7 +12,16 @@ pub fn put_number(n: u32) {
     put(&bytes[start..]);
 }
 
-// The same of an integer, with the sign of a negative one.
+// The same of a size; those that are printed are numbers of 32 bits.
+pub fn put_size(n: usize) {
+    if 4294967295 < n {
+        put(b"above 4294967295");
+        return;
+    }
+    put_number(n as u32);
+}
+
+// The decimal integer, with the sign of a negative one.
 pub fn put_integer(n: i32) {
     let mut bytes = [0u8; 11];
     let start = decimal::decimal(&mut bytes, n);
