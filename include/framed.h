@@ -26,9 +26,9 @@ extern "C" {
 #endif
 
 #define FRAMED_VERSION_MAJOR 0
-#define FRAMED_VERSION_MINOR 3
+#define FRAMED_VERSION_MINOR 4
 #define FRAMED_VERSION_PATCH 0
-#define FRAMED_VERSION "0.3.0"
+#define FRAMED_VERSION "0.4.0"
 
 /* The lengths that the four memories must have, in words and bytes. */
 #define FRAMED_PROGRAM_WORDS 16384
@@ -73,7 +73,7 @@ enum {
     FRAMED_NO_RULE = 31,       /* no rule applies to the next instruction */
     FRAMED_DIVISOR_ZERO = 32,
     FRAMED_INTEGER_RANGE = 33, /* the exact result does not fit 32 bits */
-    FRAMED_TEXT_LENGTH = 34,   /* a joined text would have more than 64 bytes */
+    FRAMED_TEXT_LENGTH = 34,   /* a joined text would have more than 64 bytes, of which a frame gives 5 and a code 4 */
     FRAMED_SLOT_LIMIT = 35,    /* a frame would have a 17th slot */
     FRAMED_FRAMES_FULL = 36,   /* the frames reached, plus those that the instruction makes, exceed F */
     FRAMED_TEXTS_FULL = 37     /* the same of made texts and T */

@@ -2,7 +2,6 @@
 use mathlib.Core.Path.{_≡_, refl, sym, subst}
 use mathlib.Core.Logic.{⊎-elim}
 use mathlib.Core.Bool.{Bool, true, false}
-use mathlib.Core.Option.{Option, none, some}
 use mathlib.Core.List.{List, [], _∷_, _++_, List·Memᴰ·cases-cons, List·Memᴰ·not-nil, List·Memᴰ·append-cases}
 use Prim.Native.Nat.{ℕ, zero, suc, _+_, _/_, _%_, _≤_, _<_}
 use native.Mathlib.Nat.{mod-lt}
@@ -14,13 +13,12 @@ use lib.Dec.{leb, ltb}
 use borrow.Author.Tests.{leb-true, ltb-true, le-leb, ne-eqb}
 use Rattle.framed.specs.declared.Value.{Value}
 use Rattle.framed.specs.declared.Text.{Text}
-use Rattle.framed.specs.Common.{if_then_else_}
+use Rattle.framed.specs.Common.{if_then_else_, bytes}
 use Rattle.framed.specs.Bytes.{string-byte}
 use Rattle.framed.specs.Tokens.{Operator, in-range}
-use Rattle.framed.specs.Values.{Heap, text-bytes, digits-within, decimal, joined, bit}
-use Rattle.framed.specs.Machine.{Result, gives, ends, defined, integer-in, integer-result, quotient, new-text, operate, Evaluated, is-join}
+use Rattle.framed.specs.Values.{Heap, text-bytes, digits-within, decimal, shown, join-bytes, bit}
+use Rattle.framed.specs.Machine.{Result, gives, ends, integer-in, integer-result, quotient, new-text, operate, Evaluated, is-join}
 use Rattle.framed.specs.Machine as M
-use Rattle.framed.proofs.General.{none≢some, some-inj}
 use Rattle.bounded.specs.Fits.{StringBytes}
 use Rattle.bounded.specs.Operations.{Product, number, text, ranged, measured, flag, operated}
 use Rattle.bounded.proofs.Views.{with-text}
@@ -58,7 +56,7 @@ unfolding flag bit keep kept
 flag-is true h = refl
 flag-is false h = refl
 
-two-is : {A : Type 0} (h : Heap) (m n : Result A) (f : A → A → Result Evaluated) (g : A → A → Result Product) → ((y z : A) → f y z ≡ keep (g y z) h) →
+two-is : (h : Heap) (m n : Result ℤ) (f : ℤ → ℤ → Result Evaluated) (g : ℤ → ℤ → Result Product) → ((y z : ℤ) → f y z ≡ keep (g y z) h) →
     M._>>=_ m (λ y. M._>>=_ n (λ z. f y z)) ≡ keep (M._>>=_ m (λ y. M._>>=_ n (λ z. g y z))) h
 unfolding M._>>=_ keep
 two-is h (gives y) (gives z) f g k = k y z
@@ -80,7 +78,7 @@ operate-is ls Operator.minus v w h = two-is h (integer-in v) (integer-in w) _ _ 
 operate-is ls Operator.times v w h = two-is h (integer-in v) (integer-in w) _ _ (λ y z. ranged-is (y *ℤ z) h)
 operate-is ls Operator.over v w h = two-is h (integer-in v) (integer-in w) _ _ (λ y z. over-is h y z)
 operate-is ls Operator.less v w h = two-is h (integer-in v) (integer-in w) _ _ (λ y z. flag-is (ltZ y z) h)
-operate-is ls Operator.join v w h = two-is h (defined (joined ls (h .texts) v)) (defined (joined ls (h .texts) w)) _ _ (λ y z. measured-is (y ++ z) h)
+operate-is ls Operator.join v w h = measured-is (join-bytes ls (h .texts) v w) h
 operate-is ls Operator.equal v w h = flag-is _ h
 operate-is ls Operator.and v w h = flag-is _ h
 operate-is ls Operator.or v w h = flag-is _ h
@@ -91,13 +89,21 @@ string-append : (a b : List ℕ) → StringBytes a → StringBytes b → StringB
 unfolding StringBytes
 string-append a b f g c i = ⊎-elim (λ j. f c j) (λ j. g c j) (List·Memᴰ·append-cases a i)
 
-string-one : (b : ℕ) → string-byte b ≡ true → StringBytes (b ∷ [])
-unfolding StringBytes
-string-one b e c i = ⊎-elim (λ q. subst (λ (n : ℕ). string-byte n ≡ true) (sym q) e) (λ j. absurd (List·Memᴰ·not-nil j)) (List·Memᴰ·cases-cons i)
-
 string-none : StringBytes []
 unfolding StringBytes
 string-none c i = absurd (List·Memᴰ·not-nil i)
+
+string-cons : (b : ℕ) (bs : List ℕ) → string-byte b ≡ true → StringBytes bs → StringBytes (b ∷ bs)
+unfolding StringBytes
+string-cons b bs e f c i = ⊎-elim (λ q. subst (λ (n : ℕ). string-byte n ≡ true) (sym q) e) (λ j. f c j) (List·Memᴰ·cases-cons i)
+
+code-string : StringBytes (bytes "code")
+unfolding bytes
+code-string = string-cons 99 _ refl (string-cons 111 _ refl (string-cons 100 _ refl (string-cons 101 _ refl string-none)))
+
+frame-string : StringBytes (bytes "frame")
+unfolding bytes
+frame-string = string-cons 102 _ refl (string-cons 114 _ refl (string-cons 97 _ refl (string-cons 109 _ refl (string-cons 101 _ refl string-none))))
 
 digit-byte : (d : ℕ) → d < 10 → string-byte (48 + d) ≡ true
 digit-byte d l = rw (le-leb 32 (48 + d) (omega arith), le-leb (48 + d) 126 (omega arith), ne-eqb (48 + d) 34 (λ e. omega arith))
@@ -109,13 +115,13 @@ digits-string (suc bound) n = step (ltb n 10) refl (digits-string bound (n / 10)
   where
     step : (t : Bool) → ltb n 10 ≡ t → StringBytes (digits-within bound (n / 10)) →
         StringBytes (elim t [ true ↦ (48 + n) ∷ [] | false ↦ digits-within bound (n / 10) ++ ((48 + n % 10) ∷ []) ])
-    step true e k = string-one (48 + n) (digit-byte n (ltb-true n 10 e))
-    step false e k = string-append (digits-within bound (n / 10)) ((48 + n % 10) ∷ []) k (string-one (48 + n % 10) (digit-byte (n % 10) (mod-lt n (omega arith))))
+    step true e k = string-cons (48 + n) [] (digit-byte n (ltb-true n 10 e)) string-none
+    step false e k = string-append (digits-within bound (n / 10)) ((48 + n % 10) ∷ []) k (string-cons (48 + n % 10) [] (digit-byte (n % 10) (mod-lt n (omega arith))) string-none)
 
 decimal-string : (z : ℤ) → StringBytes (decimal z)
 unfolding decimal
 decimal-string (pos n) = digits-string (suc n) n
-decimal-string (negsuc n) = string-append (45 ∷ []) (digits-within (suc (suc n)) (suc n)) (string-one 45 refl) (digits-string (suc (suc n)) (suc n))
+decimal-string (negsuc n) = string-cons 45 (digits-within (suc (suc n)) (suc n)) refl (digits-string (suc (suc n)) (suc n))
 
 -- ---- What an operator gives
 
@@ -167,32 +173,29 @@ over-small y (pos zero) = fails
 over-small y (pos (suc n)) = ranged-small _
 over-small y (negsuc n) = ranged-small _
 
-join-small : (a b : Option (List ℕ)) → ((bs : List ℕ) → a ≡ some bs → StringBytes bs) → ((bs : List ℕ) → b ≡ some bs → StringBytes bs) →
-    Outcome 1 (M._>>=_ (defined a) (λ y. M._>>=_ (defined b) (λ z. measured (y ++ z))))
-unfolding M._>>=_ defined
-join-small none b f g = fails
-join-small (some y) none f g = fails
-join-small (some y) (some z) f g = measured-small (y ++ z) (string-append y z (f y refl) (g z refl))
+-- what is shown of a value keeps the string rule, where the literals and its own text do
+pub shown-string : (ls made : List (List ℕ)) (v : Value) → ((k : ℕ) → StringBytes (getD ls k [])) →
+    ((k : ℕ) → v ≡ Value.Text (Text.Made k) → StringBytes (getD made k [])) → StringBytes (shown ls made v)
+unfolding shown text-bytes
+shown-string ls made (Value.Int z) f g = decimal-string z
+shown-string ls made (Value.Text (Text.Literal k)) f g = f k
+shown-string ls made (Value.Text (Text.Made k)) f g = g k refl
+shown-string ls made (Value.Code k) f g = code-string
+shown-string ls made (Value.Frame n) f g = frame-string
 
--- the bytes that a value joins keep the string rule, where the literals and its own text do
-pub joined-string : (ls made : List (List ℕ)) (v : Value) → ((k : ℕ) → StringBytes (getD ls k [])) →
-    ((k : ℕ) → v ≡ Value.Text (Text.Made k) → StringBytes (getD made k [])) → (bs : List ℕ) → joined ls made v ≡ some bs → StringBytes bs
-unfolding joined text-bytes
-joined-string ls made (Value.Int z) f g bs e = subst StringBytes (some-inj e) (decimal-string z)
-joined-string ls made (Value.Text (Text.Literal k)) f g bs e = subst StringBytes (some-inj e) (f k)
-joined-string ls made (Value.Text (Text.Made k)) f g bs e = subst StringBytes (some-inj e) (g k refl)
-joined-string ls made (Value.Code k) f g bs e = absurd (none≢some e)
-joined-string ls made (Value.Frame n) f g bs e = absurd (none≢some e)
+join-string : (ls made : List (List ℕ)) (v w : Value) → StringBytes (shown ls made v) → StringBytes (shown ls made w) → StringBytes (join-bytes ls made v w)
+unfolding join-bytes
+join-string ls made v w f g = string-append (shown ls made v) (shown ls made w) f g
 
-pub operated-small : (ls made : List (List ℕ)) (o : Operator) (v w : Value) → ((bs : List ℕ) → joined ls made v ≡ some bs → StringBytes bs) →
-    ((bs : List ℕ) → joined ls made w ≡ some bs → StringBytes bs) → Outcome (is-join o) (operated ls made o v w)
+pub operated-small : (ls made : List (List ℕ)) (o : Operator) (v w : Value) → StringBytes (shown ls made v) → StringBytes (shown ls made w) →
+    Outcome (is-join o) (operated ls made o v w)
 unfolding operated is-join
 operated-small ls made Operator.plus v w f g = integers-small v w _ (λ y z. ranged-small (y +ℤ z))
 operated-small ls made Operator.minus v w f g = integers-small v w _ (λ y z. ranged-small (y -ℤ z))
 operated-small ls made Operator.times v w f g = integers-small v w _ (λ y z. ranged-small (y *ℤ z))
 operated-small ls made Operator.over v w f g = integers-small v w _ (λ y z. over-small y z)
 operated-small ls made Operator.less v w f g = integers-small v w _ (λ y z. succeeds (flag-small (ltZ y z)))
-operated-small ls made Operator.join v w f g = join-small (joined ls made v) (joined ls made w) f g
+operated-small ls made Operator.join v w f g = measured-small (join-bytes ls made v w) (join-string ls made v w f g)
 operated-small ls made Operator.equal v w f g = succeeds (flag-small _)
 operated-small ls made Operator.and v w f g = succeeds (flag-small _)
 operated-small ls made Operator.or v w f g = succeeds (flag-small _)

@@ -17,7 +17,7 @@ use Rattle.framed.specs.Common.{same}
 use Rattle.framed.specs.Tokens.{Operator}
 use Rattle.framed.specs.Tree.{Base, Code}
 use Rattle.framed.specs.Paths.{Path, from-self, from-program}
-use Rattle.framed.specs.Values.{Slot, Frame, new-frame, text-bytes, shown, joined, truth, equal-values}
+use Rattle.framed.specs.Values.{Slot, Frame, new-frame, text-bytes, shown, join-bytes, truth, equal-values}
 use Rattle.framed.specs.Fetch.{in-slots, in-frame, frame-of, get, fetch}
 use Rattle.framed.specs.Fetch as F
 use Rattle.framed.specs.Reach.{slot-value, values-in, Reachable}
@@ -199,13 +199,9 @@ module _ {R : Rel} {H K : View} (S : Simulates R H K) (ls : List (List ℕ)) whe
   shown-rel codes = refl
   shown-rel (frames r) = refl
 
-  joined-rel : {v w : Value} → ValueRel R v w → joined ls (H .heap .texts) v ≡ joined ls (K .heap .texts) w
-  unfolding joined text-bytes
-  joined-rel integers = refl
-  joined-rel literals = refl
-  joined-rel (texts {j = j} {k = k} r) = ap some (made-rel j k r)
-  joined-rel codes = refl
-  joined-rel (frames r) = refl
+  join-rel : {v v′ w w′ : Value} → ValueRel R v v′ → ValueRel R w w′ → join-bytes ls (H .heap .texts) v w ≡ join-bytes ls (K .heap .texts) v′ w′
+  unfolding join-bytes
+  join-rel r q = ap₂ (λ (a b : List ℕ). a ++ b) (shown-rel r) (shown-rel q)
 
   number-rel : (a b c d : ℕ) → R .frame a c → R .frame b d → eqb a b ≡ eqb c d
   number-rel a b c d r q = step (ℕ-discrete a b)
@@ -257,7 +253,7 @@ module _ {R : Rel} {H K : View} (S : Simulates R H K) (ls : List (List ℕ)) whe
   operated-rel Operator.times r q = two-integers _ r q
   operated-rel Operator.over r q = two-integers _ r q
   operated-rel Operator.less r q = two-integers _ r q
-  operated-rel Operator.join r q = ap₂ (λ a b. M._>>=_ (defined a) (λ y. M._>>=_ (defined b) (λ z. measured (y ++ z)))) (joined-rel r) (joined-rel q)
+  operated-rel Operator.join r q = ap measured (join-rel r q)
   operated-rel Operator.equal r q = ap (λ t. gives (flag t)) (equal-rel r q)
   operated-rel Operator.and r q = ap₂ (λ a b. gives (flag (a && b))) (truth-rel r) (truth-rel q)
   operated-rel Operator.or r q = ap₂ (λ a b. gives (flag (a || b))) (truth-rel r) (truth-rel q)

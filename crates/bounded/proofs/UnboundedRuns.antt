@@ -16,7 +16,7 @@ use Rattle.framed.specs.Tokens.{Operator, in-range}
 use Rattle.framed.specs.Tree.{Base, Expression, Slots, Instruction, Code, _then_}
 use Rattle.framed.specs.Paths.{Path, from-self, from-program}
 use Rattle.framed.specs.Program.{Program}
-use Rattle.framed.specs.Values.{Frame, Heap, truth, joined}
+use Rattle.framed.specs.Values.{Frame, Heap, truth, join-bytes}
 use Rattle.framed.specs.Fetch.{fetch, get}
 use Rattle.framed.specs.Machine.{State, Effect, Result, gives, ends, defined, base-value, integer-in, integer-result, quotient, new-text, operate, evaluate, fill, frame-number, holds, put-slot, put, assign-to, code-of, jump-to, perform, step, after-step, marked, right-side, frame-literals}
 use Rattle.framed.specs.Machine as M
@@ -84,10 +84,7 @@ operate-within literals Operator.minus v w h = two-integers v w _ (λ y z. resul
 operate-within literals Operator.times v w h = two-integers v w _ (λ y z. result-within _ h)
 operate-within literals Operator.over v w h = two-integers v w _ (λ y z. within-bind (quotient y z) _ (quotient-within y z) (λ q. result-within q h))
 operate-within literals Operator.less v w h = two-integers v w _ (λ y z. tt)
-operate-within literals Operator.join v w h =
-    within-bind (defined (joined literals (h .texts) v)) _ (within-defined (joined literals (h .texts) v)) (λ a.
-    within-bind (defined (joined literals (h .texts) w)) _ (within-defined (joined literals (h .texts) w)) (λ b.
-    within-if (leb (length (a ++ b)) 64) _ _ tt (omega arith, omega arith)))
+operate-within literals Operator.join v w h = within-if (leb (length (join-bytes literals (h .texts) v w)) 64) _ _ tt (omega arith, omega arith)
 operate-within literals Operator.equal v w h = tt
 operate-within literals Operator.and v w h = tt
 operate-within literals Operator.or v w h = tt

@@ -1,6 +1,6 @@
 -- Document 01, "The endless machine", the operators: what each gives without regard to where a new text is kept. Assumes nothing.
 use mathlib.Core.Bool.{Bool, true, false, _||_, _&&_}
-use mathlib.Core.List.{List, _++_}
+use mathlib.Core.List.{List}
 use Prim.Native.Nat.{ℕ}
 use lib.IntN.{ℤ, pos, _+ℤ_, _-ℤ_, _*ℤ_}
 use lib.Signed.{ltZ}
@@ -9,8 +9,8 @@ use lib.Dec.{leb}
 use Rattle.framed.specs.declared.Value.{Value}
 use Rattle.framed.specs.Common.{if_then_else_}
 use Rattle.framed.specs.Tokens.{Operator, in-range}
-use Rattle.framed.specs.Values.{joined, truth, equal-values}
-use Rattle.framed.specs.Machine.{Result, gives, ends, _>>=_, defined, integer-in, quotient}
+use Rattle.framed.specs.Values.{join-bytes, truth, equal-values}
+use Rattle.framed.specs.Machine.{Result, gives, ends, _>>=_, integer-in, quotient}
 
 -- an integer, or the bytes of a new made text
 pub data Product : Type 0 where
@@ -37,10 +37,7 @@ operated literals made Operator.minus v w = do y ← integer-in v; z ← integer
 operated literals made Operator.times v w = do y ← integer-in v; z ← integer-in w; ranged (y *ℤ z)
 operated literals made Operator.over v w = do y ← integer-in v; z ← integer-in w; q ← quotient y z; ranged q
 operated literals made Operator.less v w = do y ← integer-in v; z ← integer-in w; gives (flag (ltZ y z))
-operated literals made Operator.join v w = do
-  a ← defined (joined literals made v)
-  b ← defined (joined literals made w)
-  measured (a ++ b)
+operated literals made Operator.join v w = measured (join-bytes literals made v w)
 operated literals made Operator.equal v w = gives (flag (equal-values literals made v w))
 operated literals made Operator.and v w = gives (flag (truth v && truth w))
 operated literals made Operator.or v w = gives (flag (truth v || truth w))

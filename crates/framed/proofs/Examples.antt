@@ -1,6 +1,6 @@
--- Document 01's proved examples and its printed run, and document 02's texts, by computation. Assumes nothing.
+-- Document 01's proved examples and its printed run, and document 02's examples, by computation. Assumes nothing.
 use mathlib.Core.Path.{refl}
-use Rattle.framed.specs.Examples.{ProvedExamples, PrintedRun, WrittenExamples, Examples}
+use Rattle.framed.specs.Examples.{ProvedExamples, PrintedRun, WrittenExamples, JoinedExamples, Examples}
 
 pub proved-examples : ProvedExamples
 unfolding ProvedExamples Examples
@@ -13,3 +13,7 @@ printed-run = refl
 pub written-examples : WrittenExamples
 unfolding WrittenExamples Examples
 written-examples = (refl, refl, refl)
+
+pub joined-examples : JoinedExamples
+unfolding JoinedExamples Examples
+joined-examples = (refl, refl, refl, refl, refl, refl, refl)

@@ -14,6 +14,7 @@ pub mod ReachCounts
 pub mod FetchExact
 pub mod LookJudged
 pub mod StepJudged
+pub mod JoinTotal
 pub mod Runs
 pub mod RunJudged
 pub mod ProgramJudged

@@ -55,7 +55,7 @@ operation-grows {h} (o-minus t) = stays h
 operation-grows {h} (o-times t) = stays h
 operation-grows {h} (o-over n t) = stays h
 operation-grows {h} o-less = stays h
-operation-grows {h} (o-join p q l) = record { more = []; frames-are = sym (append-nil (h .frames)) }
+operation-grows {h} (o-join l) = record { more = []; frames-are = sym (append-nil (h .frames)) }
 operation-grows {h} o-equal = stays h
 operation-grows {h} o-and = stays h
 operation-grows {h} o-or = stays h

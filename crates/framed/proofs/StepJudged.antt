@@ -20,7 +20,7 @@ use Rattle.framed.specs.Tokens.{Operator, in-range}
 use Rattle.framed.specs.Tree.{Base, Expression, Slots, Instruction, Code}
 use Rattle.framed.specs.Paths.{Path, from-self, from-program}
 use Rattle.framed.specs.Program.{Program}
-use Rattle.framed.specs.Values.{Slot, Frame, Heap, with-slots, joined, truth, bit}
+use Rattle.framed.specs.Values.{Slot, Frame, Heap, with-slots, join-bytes, truth, bit}
 use Rattle.framed.specs.Fetch.{in-frame, frame-of, get, fetch}
 use Rattle.framed.specs.Machine.{Result, gives, ends, defined, base-value, Evaluated, evaluated, integer-in, integer-result, quotient, new-text, operate, evaluate, fill, Filled, with-frame, Effect, becomes, set-slot, holds, frame-number, put-slot, put, assign-to, code-of, jump-to, perform, State, Ready, step}
 use Rattle.framed.specs.Machine as M
@@ -49,16 +49,16 @@ unfolding M._>>=_
 bind-gives (gives a) f e k = k a refl e
 bind-gives (ends j) f e k = absurd (ends≢gives e)
 
-gives-bind : {A B : Type 0} {m : Result A} (f : A → Result B) {a : A} {r : Result B} → m ≡ gives a → f a ≡ r → M._>>=_ m f ≡ r
+pub gives-bind : {A B : Type 0} {m : Result A} (f : A → Result B) {a : A} {r : Result B} → m ≡ gives a → f a ≡ r → M._>>=_ m f ≡ r
 unfolding M._>>=_
 gives-bind f p q = rw p q
 
-bind-ends : {A B C : Type 0} (m : Result A) (f : A → Result B) {k : ℕ} → M._>>=_ m f ≡ ends k → (m ≡ ends k → C) → ((a : A) → m ≡ gives a → f a ≡ ends k → C) → C
+pub bind-ends : {A B C : Type 0} (m : Result A) (f : A → Result B) {k : ℕ} → M._>>=_ m f ≡ ends k → (m ≡ ends k → C) → ((a : A) → m ≡ gives a → f a ≡ ends k → C) → C
 unfolding M._>>=_
 bind-ends (gives a) f e l r = r a refl e
 bind-ends (ends j) f e l r = l (ap ends (ends-inj e))
 
-ends-bind : {A B : Type 0} {m : Result A} (f : A → Result B) {k : ℕ} → m ≡ ends k → M._>>=_ m f ≡ ends k
+pub ends-bind : {A B : Type 0} {m : Result A} (f : A → Result B) {k : ℕ} → m ≡ ends k → M._>>=_ m f ≡ ends k
 unfolding M._>>=_
 ends-bind f p = rw p
 
@@ -78,7 +78,7 @@ defined-ends (some b) e = absurd (gives≢ends e)
 
 -- ---- B
 
-base-sound : (Σ Π : Value) (frames : List Frame) (b : Base Path) {v : Value} → base-value Σ Π frames b ≡ gives v → B⇒ Σ Π frames b v
+pub base-sound : (Σ Π : Value) (frames : List Frame) (b : Base Path) {v : Value} → base-value Σ Π frames b ≡ gives v → B⇒ Σ Π frames b v
 unfolding base-value
 base-sound Σ Π frames (Base.integer z) e = rw (← gives-inj e) b-int
 base-sound Σ Π frames (Base.string k) e = rw (← gives-inj e) b-string
@@ -86,7 +86,7 @@ base-sound Σ Π frames (Base.code k is) e = rw (← gives-inj e) b-code
 base-sound Σ Π frames (Base.path (from-self ns)) e = b-path₁ (fetch-exact frames Σ ns _ .0 (defined-gives (fetch frames Σ ns) e))
 base-sound Σ Π frames (Base.path (from-program ns)) e = b-path₂ (fetch-exact frames Π ns _ .0 (defined-gives (fetch frames Π ns) e))
 
-base-complete : {Σ Π : Value} {frames : List Frame} {b : Base Path} {v : Value} → B⇒ Σ Π frames b v → base-value Σ Π frames b ≡ gives v
+pub base-complete : {Σ Π : Value} {frames : List Frame} {b : Base Path} {v : Value} → B⇒ Σ Π frames b v → base-value Σ Π frames b ≡ gives v
 unfolding base-value
 base-complete b-int = refl
 base-complete b-string = refl
@@ -94,7 +94,7 @@ base-complete b-code = refl
 base-complete {frames} (b-path₁ d) = gives-defined (fetch-exact frames _ _ _ .1 d)
 base-complete {frames} (b-path₂ d) = gives-defined (fetch-exact frames _ _ _ .1 d)
 
-base-ends : (Σ Π : Value) (frames : List Frame) (b : Base Path) {k : ℕ} → base-value Σ Π frames b ≡ ends k → k ≡ 31
+pub base-ends : (Σ Π : Value) (frames : List Frame) (b : Base Path) {k : ℕ} → base-value Σ Π frames b ≡ ends k → k ≡ 31
 unfolding base-value
 base-ends Σ Π frames (Base.integer z) e = absurd (gives≢ends e)
 base-ends Σ Π frames (Base.string k) e = absurd (gives≢ends e)
@@ -123,7 +123,7 @@ chosen : {A : Type 0} {b : A} (t : Bool) (a : A) (k : ℕ) → (if t then gives 
 chosen true a k e = (refl, gives-inj e)
 chosen false a k e = absurd (ends≢gives e)
 
-refused : {A : Type 0} {k : ℕ} (t : Bool) (a : A) (j : ℕ) → (if t then gives a else ends j) ≡ ends k → (t ≡ false) × (j ≡ k)
+pub refused : {A : Type 0} {k : ℕ} (t : Bool) (a : A) (j : ℕ) → (if t then gives a else ends j) ≡ ends k → (t ≡ false) × (j ≡ k)
 refused true a j e = absurd (gives≢ends e)
 refused false a j e = (refl, ends-inj e)
 
@@ -151,12 +151,12 @@ quotient-ends y (pos zero) e = (refl, ends-inj e)
 quotient-ends y (pos (suc n)) e = absurd (gives≢ends e)
 quotient-ends y (negsuc n) e = absurd (gives≢ends e)
 
-text-made : (bs : List ℕ) (h : Heap) → length bs ≤ 64 →
+pub text-made : (bs : List ℕ) (h : Heap) → length bs ≤ 64 →
     new-text bs h ≡ evaluated (Value.Text (Text.Made (length (h .texts)))) (record { frames = h .frames; texts = h .texts ++ (bs ∷ []) })
 unfolding new-text
 text-made bs h l = chosen-true _ _ (to-true {b = leb (length bs) 64} (le→leb _ _ l))
 
-text-refused : (bs : List ℕ) (h : Heap) → 64 < length bs → new-text bs h ≡ ends 34
+pub text-refused : (bs : List ℕ) (h : Heap) → 64 < length bs → new-text bs h ≡ ends 34
 unfolding new-text
 text-refused bs h l = chosen-false _ _ (to-false {b = leb (length bs) 64} (lt→nleb _ _ l))
 
@@ -190,10 +190,8 @@ module _ (literals : List (List ℕ)) (h : Heap) where
       bind-gives (integer-in w) _ f λ z q g.
       rw (integer-of v p, integer-of w q, ← gives-inj g) o-less
   operate-sound Operator.join v w r e =
-      bind-gives (defined (joined literals (h .texts) v)) _ e λ a p f.
-      bind-gives (defined (joined literals (h .texts) w)) _ f λ b q g.
-      let c = chosen (leb (length (a ++ b)) 64) _ _ g in
-      rw (← c .1) (o-join (defined-gives _ p) (defined-gives _ q) (leb→le _ _ (is-true (c .0))))
+      let c = chosen (leb (length (join-bytes literals (h .texts) v w)) 64) _ _ e in
+      rw (← c .1) (o-join (leb→le _ _ (is-true (c .0))))
   operate-sound Operator.equal v w r e = rw (← gives-inj e) o-equal
   operate-sound Operator.and v w r e = rw (← gives-inj e) o-and
   operate-sound Operator.or v w r e = rw (← gives-inj e) o-or
@@ -205,7 +203,7 @@ module _ (literals : List (List ℕ)) (h : Heap) where
   operate-complete (o-times t) = chosen-true _ _ t
   operate-complete (o-over n t) = gives-bind _ (quotient-by _ _ n) (chosen-true _ _ t)
   operate-complete o-less = refl
-  operate-complete (o-join {a} {b} p q l) = gives-bind _ (gives-defined p) (gives-bind _ (gives-defined q) (text-made (a ++ b) h l))
+  operate-complete (o-join {v} {w} l) = text-made (join-bytes literals (h .texts) v w) h l
   operate-complete o-equal = refl
   operate-complete o-and = refl
   operate-complete o-or = refl
@@ -241,10 +239,8 @@ module _ (literals : List (List ℕ)) (h : Heap) where
       bind-ends (integer-in w) _ f (λ n. inl (no-integer w n)) λ z q g.
       absurd (gives≢ends g)
   operate-ends Operator.join v w e =
-      bind-ends (defined (joined literals (h .texts) v)) _ e (λ n. inl (defined-ends _ n)) λ a p f.
-      bind-ends (defined (joined literals (h .texts) w)) _ f (λ n. inl (defined-ends _ n)) λ b q g.
-      let c = refused (leb (length (a ++ b)) 64) _ _ g in
-      inr (rw (← c .1) (too-long (defined-gives _ p) (defined-gives _ q) (nleb→lt _ _ (is-false (c .0)))))
+      let c = refused (leb (length (join-bytes literals (h .texts) v w)) 64) _ _ e in
+      inr (rw (← c .1) (too-long (nleb→lt _ _ (is-false (c .0)))))
   operate-ends Operator.equal v w e = absurd (gives≢ends e)
   operate-ends Operator.and v w e = absurd (gives≢ends e)
   operate-ends Operator.or v w e = absurd (gives≢ends e)
@@ -256,7 +252,7 @@ module _ (literals : List (List ℕ)) (h : Heap) where
   operate-meets (minus-out t) = chosen-false _ _ t
   operate-meets (times-out t) = chosen-false _ _ t
   operate-meets (over-out n t) = gives-bind _ (quotient-by _ _ n) (chosen-false _ _ t)
-  operate-meets (too-long {a} {b} p q l) = gives-bind _ (gives-defined p) (gives-bind _ (gives-defined q) (text-refused (a ++ b) h l))
+  operate-meets (too-long {v} {w} l) = text-refused (join-bytes literals (h .texts) v w) h l
 
 -- ---- E
 
@@ -649,7 +645,7 @@ operation-number (plus-out t) = le-by-compare 32 33 tt
 operation-number (minus-out t) = le-by-compare 32 33 tt
 operation-number (times-out t) = le-by-compare 32 33 tt
 operation-number (over-out n t) = le-by-compare 32 33 tt
-operation-number (too-long p q l) = le-by-compare 32 34 tt
+operation-number (too-long l) = le-by-compare 32 34 tt
 
 mutual
   expression-number : {literals : List (List ℕ)} {Σ Π : Value} {x : Expression Path} {h : Heap} {j : ℕ} → ExpressionMeets literals Σ Π x h j → 31 < j

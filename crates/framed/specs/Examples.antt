@@ -1,6 +1,6 @@
 -- Document 01, "A printed run and the proved examples": what each example says, from the bytes of a source to the reports.
--- `ProvedExamples` is the conjunction that the document asks for; `PrintedRun` is the example of `framerun`; `WrittenExamples` are texts of document 02, A1.
--- Assumes nothing.
+-- `ProvedExamples` is the conjunction that the document asks for; `PrintedRun` is the example of `framerun`; `WrittenExamples` are texts of document 02, A1,
+-- and `JoinedExamples` runs of its A3. Assumes nothing.
 use mathlib.Core.Path.{_≡_}
 use mathlib.Core.List.{List, [], _∷_, _++_}
 use mathlib.Core.Option.{Option, none, some}
@@ -117,6 +117,22 @@ WrittenExamples =
     -- code in code adds no level, and a frame in code none
     × rewrites "frame: [ Main := frame: [ start := code { self.f := frame: [ h := code { ifeq ^.^.Main self.a.b code {}; } ]; } ] ]"
     "frame : [ Main := frame : [ start := code { self.f := frame : [ h := code { ifeq ^ self.a.b code { } ; } ] ; } ] ]"
+
+-- ---- Document 02, A3: `#` of frames and codes
+
+unfoldable pub JoinedExamples : Type 0
+JoinedExamples =
+    (runs "self.x := \"left in: \" # self; show self.x;" ≡ shows "left in: frame\n")
+    × (runs "self.x := code { show 1; } # -5; show self.x;" ≡ shows "code-5\n")
+    × (runs "self.x := self # ^.start; show self.x;" ≡ shows "framecode\n")
+    -- a frame beside 59 bytes gives 64, a code beside 61 bytes ends 34
+    × (runs "self.x := self # \"0123456789abcdef0123456789abcdef0123456789abcdef0123456789a\"; show self.x;"
+    ≡ shows "frame0123456789abcdef0123456789abcdef0123456789abcdef0123456789a\n")
+    × (runs "self.x := \"0123456789abcdef0123456789abcdef0123456789abcdef0123456789abc\" # ^.start; show self.x;" ≡ ended 34)
+    -- an operand that has no value ends 31, also beside 64 bytes
+    × (runs "self.x := \"0123456789abcdef0123456789abcdef0123456789abcdef0123456789abcdef\" # self.none; show self.x;" ≡ ended 31)
+    -- a joined text is no frame
+    × (runs "self.x := \"fra\" # \"me\"; self.y := self.x == self; show self.y;" ≡ Report.ran (Stopped.end 0) 3 2 (bytes "0\n") ∷ [])
 
 -- to compute with these, a proof unfolds `Examples`
 unfoldable pub Examples : Type 0

@@ -1,6 +1,7 @@
 -- Document 001 (the Framed thesis), section 4: its judgments B, Fetch, E, Put, I, C and that of a program as relations, one constructor for each rule,
 -- with document 01's corrections and limits: Put₂ reads getF, I-Assign₃ hands Put the newer heap, integers are in range, a made text has at most
--- 64 bytes and a frame at most 16 slots. I, C and that of a program also say what is shown.
+-- 64 bytes and a frame at most 16 slots; and with document 02's: `#` takes values of any kind, each as `show` writes it (A3).
+-- I, C and that of a program also say what is shown.
 -- `Meets` says which of 32 to 35 is met first in the rule's order. Demand 2: `Machine.perform` gives what `I⇒` says, ends with 32 to 35 where
 -- `Meets` says so, and else with 31. Assumes nothing.
 use mathlib.Core.Path.{_≡_}
@@ -20,7 +21,7 @@ use Rattle.framed.specs.Symbols.{number-in}
 use Rattle.framed.specs.Tree.{Base, Expression, Slots, Instruction, Code, _then_}
 use Rattle.framed.specs.Paths.{Path, from-self, from-program}
 use Rattle.framed.specs.Program.{Program}
-use Rattle.framed.specs.Values.{Slot, Frame, Heap, new-frame, with-slots, empty-heap, shown, joined, truth, bit, equal-values}
+use Rattle.framed.specs.Values.{Slot, Frame, Heap, new-frame, with-slots, empty-heap, shown, join-bytes, truth, bit, equal-values}
 use Rattle.framed.specs.Fetch.{in-frame, frame-of}
 use Rattle.framed.specs.Machine.{set-slot, with-frame, with-frames, State, Effect}
 
@@ -52,9 +53,9 @@ pub data Operates (literals : List (List ℕ)) (h : Heap) : Operator → Value �
   o-over : {y z : ℤ} → z ≢ pos 0 → in-range (quotZ y z) ≡ true →
       Operates literals h Operator.over (Value.Int y) (Value.Int z) (Value.Int (quotZ y z)) h
   o-less : {y z : ℤ} → Operates literals h Operator.less (Value.Int y) (Value.Int z) (bit (ltZ y z)) h
-  o-join : {v w : Value} {a b : List ℕ} →
-      joined literals (h .texts) v ≡ some a → joined literals (h .texts) w ≡ some b → length (a ++ b) ≤ 64 →
-      Operates literals h Operator.join v w (Value.Text (Text.Made (length (h .texts)))) (record { frames = h .frames; texts = h .texts ++ ((a ++ b) ∷ []) })
+  o-join : {v w : Value} → length (join-bytes literals (h .texts) v w) ≤ 64 →
+      Operates literals h Operator.join v w (Value.Text (Text.Made (length (h .texts))))
+      (record { frames = h .frames; texts = h .texts ++ (join-bytes literals (h .texts) v w ∷ []) })
   o-equal : {v w : Value} → Operates literals h Operator.equal v w (bit (equal-values literals (h .texts) v w)) h
   o-and : {v w : Value} → Operates literals h Operator.and v w (bit (truth v && truth w)) h
   o-or : {v w : Value} → Operates literals h Operator.or v w (bit (truth v || truth w)) h
@@ -145,9 +146,7 @@ pub data OperationMeets (literals : List (List ℕ)) (h : Heap) : Operator → V
   minus-out : {y z : ℤ} → in-range (y -ℤ z) ≡ false → OperationMeets literals h Operator.minus (Value.Int y) (Value.Int z) 33
   times-out : {y z : ℤ} → in-range (y *ℤ z) ≡ false → OperationMeets literals h Operator.times (Value.Int y) (Value.Int z) 33
   over-out : {y z : ℤ} → z ≢ pos 0 → in-range (quotZ y z) ≡ false → OperationMeets literals h Operator.over (Value.Int y) (Value.Int z) 33
-  too-long : {v w : Value} {a b : List ℕ} →
-      joined literals (h .texts) v ≡ some a → joined literals (h .texts) w ≡ some b → 64 < length (a ++ b) →
-      OperationMeets literals h Operator.join v w 34
+  too-long : {v w : Value} → 64 < length (join-bytes literals (h .texts) v w) → OperationMeets literals h Operator.join v w 34
 
 mutual
   pub data ExpressionMeets (literals : List (List ℕ)) (Σ Π : Value) : Expression Path → Heap → ℕ → Type 0 where

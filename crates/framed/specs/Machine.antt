@@ -16,7 +16,7 @@ use Rattle.framed.specs.Tokens.{Operator, in-range}
 use Rattle.framed.specs.Tree.{Base, Expression, Slots, Instruction, Code, _then_}
 use Rattle.framed.specs.Paths.{Path, from-self, from-program}
 use Rattle.framed.specs.Program.{Program}
-use Rattle.framed.specs.Values.{Slot, Frame, Heap, new-frame, with-slots, empty-heap, shown, joined, truth, bit, equal-values}
+use Rattle.framed.specs.Values.{Slot, Frame, Heap, new-frame, with-slots, empty-heap, shown, join-bytes, truth, bit, equal-values}
 use Rattle.framed.specs.Fetch.{in-frame, get, fetch}
 use Rattle.framed.specs.Reach.{roots, reached-frames, texts-from}
 
@@ -113,10 +113,7 @@ operate literals Operator.minus v w h = do y ← integer-in v; z ← integer-in 
 operate literals Operator.times v w h = do y ← integer-in v; z ← integer-in w; integer-result (y *ℤ z) h
 operate literals Operator.over v w h = do y ← integer-in v; z ← integer-in w; q ← quotient y z; integer-result q h
 operate literals Operator.less v w h = do y ← integer-in v; z ← integer-in w; evaluated (bit (ltZ y z)) h
-operate literals Operator.join v w h = do
-  a ← defined (joined literals (h .texts) v)
-  b ← defined (joined literals (h .texts) w)
-  new-text (a ++ b) h
+operate literals Operator.join v w h = new-text (join-bytes literals (h .texts) v w) h
 operate literals Operator.equal v w h = evaluated (bit (equal-values literals (h .texts) v w)) h
 operate literals Operator.and v w h = evaluated (bit (truth v && truth w)) h
 operate literals Operator.or v w h = evaluated (bit (truth v || truth w)) h

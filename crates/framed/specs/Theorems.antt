@@ -2,7 +2,7 @@
 use mathlib.Core.Path.{_≡_}
 use mathlib.Core.Logic.{_↔_, _⊎_}
 use mathlib.Core.Bool.{true, false}
-use mathlib.Core.List.{List, []}
+use mathlib.Core.List.{List, [], _∷_, _++_}
 use mathlib.Core.Option.{none, some}
 use Prim.Native.Nat.{ℕ, suc, _+_, _-_, _≤_, _<_}
 use lib.ListN.{length, take}
@@ -10,9 +10,9 @@ use Rattle.framed.specs.declared.Value.{Value}
 use Rattle.framed.specs.declared.Text.{Text}
 use Rattle.framed.specs.Common.{member, has-twice, _∈_, Twice}
 use Rattle.framed.specs.Bytes.{Classes, class}
-use Rattle.framed.specs.Tokens.{Token, tokens, Tokens⊢}
+use Rattle.framed.specs.Tokens.{Operator, Token, tokens, Tokens⊢}
 use Rattle.framed.specs.Symbols.{Symbol, name-table}
-use Rattle.framed.specs.Tree.{Written, Slots, Instruction, Code, _then_}
+use Rattle.framed.specs.Tree.{Written, Base, Expression, Slots, Instruction, Code, _then_}
 use Rattle.framed.specs.Grammar.{Source}
 use Rattle.framed.specs.Parse.{parse}
 use Rattle.framed.specs.Paths.{Place, holder, names-up, above-program, Path, resolve-path}
@@ -20,11 +20,11 @@ use Rattle.framed.specs.Meaning.{Piece, pieces, Lengths, refusal}
 use Rattle.framed.specs.Occurrences.{Occurs}
 use Rattle.framed.specs.Refusals.{Holds}
 use Rattle.framed.specs.Program.{Program, program}
-use Rattle.framed.specs.Values.{Frame, Heap}
+use Rattle.framed.specs.Values.{Frame, Heap, join-bytes}
 use Rattle.framed.specs.Fetch.{fetch}
 use Rattle.framed.specs.Writer.{common-prefix, written-path}
-use Rattle.framed.specs.Machine.{State, Effect, gives, ends, Ready, right-side, frame-literals, join-signs, step, start}
-use Rattle.framed.specs.Judgments.{Fetch⇒, start-path, P⇒, Rule, FirstMet, RunsTo}
+use Rattle.framed.specs.Machine.{State, Effect, gives, ends, operate, evaluate, Ready, right-side, frame-literals, join-signs, step, start}
+use Rattle.framed.specs.Judgments.{Fetch⇒, B⇒, start-path, P⇒, Rule, FirstMet, RunsTo}
 use Rattle.framed.specs.Answers.{Stopped, Look}
 use Rattle.framed.specs.Calls.{Unbounded, at-start, Ran, run, frame-total, text-total, read-path, look, look-text, LooksAs, LooksTextAs}
 use Rattle.framed.specs.Alike.{InReach}
@@ -166,3 +166,21 @@ pub record PathWritten : Type 0 where
   pub deepest : (place : Place) (further : ℕ) (ns : List ℕ) → further ≤ length (holder place) →
       length (holder place) - common-prefix (holder place) (names-up (holder place) further ns) ≤ further
   pub is-shared : (hs ns : List ℕ) → take (common-prefix hs ns) hs ≡ take (common-prefix hs ns) ns
+
+-- ---- Document 02, A3
+
+pub record JoinTotal : Type 0 where
+  -- `#` of two values gives a new made text of the joined bytes, where they are at most 64
+  pub gives-text : (literals : List (List ℕ)) (v w : Value) (h : Heap) →
+      let bs = join-bytes literals (h .texts) v w in
+      length bs ≤ 64 →
+      operate literals Operator.join v w h
+      ≡ gives (record { value = Value.Text (Text.Made (length (h .texts))); heap = record { frames = h .frames; texts = h .texts ++ (bs ∷ []) } })
+  -- it ends 34 exactly when they are more, and has no other end
+  pub too-long : (literals : List (List ℕ)) (v w : Value) (h : Heap) →
+      (operate literals Operator.join v w h ≡ ends 34) ↔ (64 < length (join-bytes literals (h .texts) v w))
+  pub no-other-end : (literals : List (List ℕ)) (v w : Value) (h : Heap) (e : ℕ) → operate literals Operator.join v w h ≡ ends e → e ≡ 34
+  -- the expression ends 31 exactly when an operand has no value, however long the other is
+  pub no-value : (literals : List (List ℕ)) (Σ Π : Value) (a b : Base Path) (h : Heap) →
+      (evaluate literals Σ Π (Expression.operation Operator.join a b) h ≡ ends 31)
+      ↔ (((v : Value) → ¬ B⇒ Σ Π (h .frames) a v) ⊎ ((w : Value) → ¬ B⇒ Σ Π (h .frames) b w))

@@ -2,7 +2,6 @@
 -- Values are those of the crate's enums `Value` and `Text`. Assumes nothing.
 use mathlib.Core.Bool.{Bool, true, false}
 use mathlib.Core.List.{List, [], _∷_, _++_}
-use mathlib.Core.Option.{Option, none, some}
 use Prim.Native.Nat.{ℕ, zero, suc, _+_, _/_, _%_}
 use lib.IntN.{ℤ, pos, negsuc}
 use lib.ListN.{getD}
@@ -56,12 +55,9 @@ shown literals made (Value.Text t) = text-bytes literals made t
 shown literals made (Value.Code k) = bytes "code"
 shown literals made (Value.Frame n) = bytes "frame"
 
--- what `#` joins: texts or decimal integers
-unfoldable pub joined : List (List ℕ) → List (List ℕ) → Value → Option (List ℕ)
-joined literals made (Value.Int z) = some (decimal z)
-joined literals made (Value.Text t) = some (text-bytes literals made t)
-joined literals made (Value.Code k) = none
-joined literals made (Value.Frame n) = none
+-- the bytes that `#` joins: of values of any kind, what `show` writes of each (document 02, A3)
+unfoldable pub join-bytes : List (List ℕ) → List (List ℕ) → Value → Value → List ℕ
+join-bytes literals made v w = shown literals made v ++ shown literals made w
 
 -- all but integer 0 are true
 unfoldable pub truth : Value → Bool
@@ -100,5 +96,5 @@ equal-values literals made (Value.Frame n) w =
     elim w [ Value.Int z ↦ false | Value.Text u ↦ false | Value.Code l ↦ false | Value.Frame m ↦ eqb n m ]
 
 unfoldable pub Values : Type 0
-unfolding empty-heap text-bytes digits-within decimal shown joined truth bit same-integer equal-values
+unfolding empty-heap text-bytes digits-within decimal shown join-bytes truth bit same-integer equal-values
 Values = ℕ

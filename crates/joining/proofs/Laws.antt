@@ -1,41 +1,30 @@
 -- One law for each way through the functions of this crate. Assumes nothing.
 use Prim.Native.Nat.{ℕ, _+_, _≤_, _<_}
 use mathlib.Core.Path.{_≡_, _∙_, ap, sym}
-use mathlib.Core.Bool.{Bool, true, false, not}
 use mathlib.Core.List.{List}
 use native.Mathlib.Omega.{arith}
 use lib.ListN.{length, take, drop, length-append}
 use lib.Seq.{take-at, length-take-le}
 use borrow.Author.Tests.{lt-ltb, le-ltb}
 use Rattle.framed.specs.declared.Value.{Value}
-use Rattle.framed.specs.Values.{shown}
+use Rattle.framed.specs.Values.{shown, join-bytes}
 use Rattle.heap.specs.Held.{texts-held}
 use Rattle.splice.specs.Splice.{splice}
 use Rattle.splice.proofs.Laws.{splice-append, splice-fits}
 use Rattle.texts.specs.Literals.{literals-held}
 use Rattle.shown.specs.Shown.{shown-size}
 use Rattle.shown.proofs.Laws.{shown-size-is}
-use Rattle.joining.specs.Joining.{joinable, join-end, join-bytes}
+use Rattle.joining.specs.Joining.{join-end}
 
 -- join_end
-module _ (p h : List ℕ) (v w : Value) (b : Bool) (eb : b ≡ joinable v) where
-  pub end-first : not b ≡ true → 31 ≡ join-end p h v w
+module _ (p h : List ℕ) (v w : Value) (m n i j : ℕ) (em : m ≡ shown-size p h v) (en : n ≡ shown-size p h w) (ei : i ≡ m) (ej : j ≡ n) where
+  pub end-long : 64 < i + j → 34 ≡ join-end p h v w
   unfolding join-end
-  end-first e = rw (← eb, e)
+  end-long lt = rw (lt-ltb 64 (shown-size p h v + shown-size p h w) (omega arith))
 
-  module _ (e : not b ≡ false) (c : Bool) (ec : c ≡ joinable w) where
-    pub end-second : not c ≡ true → 31 ≡ join-end p h v w
-    unfolding join-end
-    end-second q = rw (← eb, e, ← ec, q)
-
-    module _ (q : not c ≡ false) (m n i j : ℕ) (em : m ≡ shown-size p h v) (en : n ≡ shown-size p h w) (ei : i ≡ m) (ej : j ≡ n) where
-      pub end-long : 64 < i + j → 34 ≡ join-end p h v w
-      unfolding join-end
-      end-long lt = rw (← eb, e, ← ec, q, lt-ltb 64 (shown-size p h v + shown-size p h w) (omega arith))
-
-      pub end-none : i + j ≤ 64 → 0 ≡ join-end p h v w
-      unfolding join-end
-      end-none le = rw (← eb, e, ← ec, q, le-ltb 64 (shown-size p h v + shown-size p h w) (omega arith))
+  pub end-none : i + j ≤ 64 → 0 ≡ join-end p h v w
+  unfolding join-end
+  end-none le = rw (le-ltb 64 (shown-size p h v + shown-size p h w) (omega arith))
 
 pub join-length : (p l h t : List ℕ) (v w : Value) → length (join-bytes (literals-held p l) (texts-held h t) v w) ≡ shown-size p h v + shown-size p h w
 unfolding join-bytes

@@ -1,36 +1,19 @@
-// `#`: whether two values can be joined, and their bytes in a buffer. An integer is joined as its decimal.
+// `#`: whether two values can be joined, and their bytes in a buffer. Each is joined as it is shown.
 use framed::Value;
 ghost use mathlib.Core.Path.{_≡_};
 ghost use Prim.Native.Nat.{_+_};
+ghost use Rattle.framed.specs.Values.{join-bytes};
 ghost use Rattle.heap.specs.Held.{texts-held};
 ghost use Rattle.shown.specs.Shown.{shown-size};
 ghost use Rattle.splice.specs.Splice.{splice};
 ghost use Rattle.texts.specs.Literals.{literals-held};
 ghost use Rattle.texts.specs.Texts.{Readable};
-ghost use Rattle.joining.specs.Joining.{joinable, join-end, join-bytes};
+ghost use Rattle.joining.specs.Joining.{join-end};
 
-// Texts and integers are joined.
-pub fn joinable(v: Value) -> bool
-    ensures { λ r. ⌜ r ≡ joinable v ⌝ }
-{
-    match v {
-        Value::Int(_) => true,
-        Value::Text(_) => true,
-        Value::Code(_) => false,
-        Value::Frame(_) => false,
-    }
-}
-
-// The end of `#`: 31 where one of them is no text and no integer, 34 above 64 bytes, else 0.
+// The end of `#`: 34 above 64 bytes, else 0.
 pub fn join_end(p: &[u32], h: &[u32], v: Value, w: Value) -> u32
     ensures { λ r. ⌜ r ≡ join-end (now (p .entry)) (now (h .entry)) v w ⌝ }
 {
-    if !joinable(v) {
-        return 31;
-    }
-    if !joinable(w) {
-        return 31;
-    }
     let n = words::wide(shown::shown_size(p, h, v));
     let m = words::wide(shown::shown_size(p, h, w));
     if n + m <= 64 {

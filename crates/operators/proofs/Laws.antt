@@ -17,11 +17,11 @@ use Rattle.framed.specs.declared.Value.{Value}
 use Rattle.framed.specs.Tokens.{Operator}
 use Rattle.framed.specs.Machine.{_>>=_, gives, ends, integer-in}
 use Rattle.bounded.specs.Operations.{flag, ranged, operated}
-use Rattle.framed.specs.Values.{truth, equal-values}
+use Rattle.framed.specs.Values.{join-bytes, truth, equal-values}
 use Rattle.bounded.specs.Check.{end-of}
 use Rattle.heap.specs.Held.{texts-held}
 use Rattle.texts.specs.Literals.{literals-held}
-use Rattle.joining.specs.Joining.{join-end, join-result, join-bytes}
+use Rattle.joining.specs.Joining.{join-end, join-result}
 use Rattle.joining.proofs.Meaning.{join-means}
 use Rattle.arith.specs.declared.Arithmetic.{Arithmetic}
 use Rattle.arith.specs.Arith.{outcome, divided}

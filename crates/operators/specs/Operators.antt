@@ -7,13 +7,12 @@ use lib.Dec.{eqb, ltb}
 use lib.IntN.{ℤ, pos}
 use Rattle.words.specs.Words.{pick}
 use Rattle.framed.specs.declared.Value.{Value}
-use Rattle.framed.specs.Values.{truth, equal-values}
+use Rattle.framed.specs.Values.{join-bytes, truth, equal-values}
 use Rattle.framed.specs.Tokens.{Operator}
 use Rattle.framed.specs.Machine.{Result, gives, ends}
 use Rattle.bounded.specs.Operations.{Product, number, text, operated}
 use Rattle.heap.specs.Held.{texts-held}
 use Rattle.texts.specs.Literals.{literals-held}
-use Rattle.joining.specs.Joining.{join-bytes}
 use Rattle.arith.specs.declared.Arithmetic.{Arithmetic}
 use Rattle.operators.specs.declared.Operated.{Operated}
 

@@ -11,7 +11,7 @@ use denote.Enum.Declared.{tagOf}
 use borrow.Author.Tests.{le-ltb}
 use Rattle.framed.specs.declared.Value.{Value}
 use Rattle.framed.specs.declared.Text.{Text}
-use Rattle.framed.specs.Values.{truth, bit}
+use Rattle.framed.specs.Values.{join-bytes, truth, bit}
 use Rattle.framed.specs.Machine as M
 use Rattle.framed.specs.Machine.{Result, gives, defined, is-join}
 use Rattle.tables.specs.declared.ExpressionEntry.{ExpressionEntry}
@@ -27,7 +27,7 @@ use Rattle.texts.specs.Literals.{literals-held}
 use Rattle.texts.specs.Texts.{Readable}
 use Rattle.splice.specs.Splice.{splice}
 use Rattle.shown.specs.Shown.{shown-size}
-use Rattle.joining.specs.Joining.{join-bytes, join-written}
+use Rattle.joining.specs.Joining.{join-written}
 use Rattle.joining.proofs.Laws.{join-length, front-size, filled-front}
 use Rattle.bounded.specs.Operations.{Product, text, operated}
 use Rattle.bounded.specs.Bounded.{value-given, produce}

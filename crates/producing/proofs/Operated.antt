@@ -2,8 +2,7 @@
 use Prim.Native.Nat.{ℕ, zero, suc, _≤_}
 use mathlib.Core.Path.{_≡_, refl}
 use mathlib.Core.Bool.{Bool, true, false}
-use mathlib.Core.List.{List, _++_}
-use mathlib.Core.Option.{Option, none, some}
+use mathlib.Core.List.{List}
 use native.Mathlib.Omega.{arith}
 use lib.IntN.{ℤ, pos, negsuc, _+ℤ_, _-ℤ_, _*ℤ_}
 use lib.Signed.{ltZ}
@@ -13,9 +12,9 @@ use borrow.Author.Tests.{leb-true}
 use Rattle.framed.specs.declared.Value.{Value}
 use Rattle.framed.specs.Common.{if_then_else_}
 use Rattle.framed.specs.Tokens.{Operator, in-range}
-use Rattle.framed.specs.Values.{joined}
+use Rattle.framed.specs.Values.{join-bytes}
 use Rattle.framed.specs.Machine as M
-use Rattle.framed.specs.Machine.{Result, gives, ends, defined, integer-in, quotient, is-join}
+use Rattle.framed.specs.Machine.{Result, gives, ends, integer-in, quotient, is-join}
 use Rattle.bounded.specs.Operations.{Product, number, text, ranged, measured, flag, operated}
 
 -- at most c texts
@@ -62,12 +61,6 @@ over-modest y (pos zero) = an-end
 over-modest y (pos (suc n)) = ranged-modest _
 over-modest y (negsuc n) = ranged-modest _
 
-join-modest : (a b : Option (List ℕ)) → Modest 1 (M._>>=_ (defined a) (λ y. M._>>=_ (defined b) (λ z. measured (y ++ z))))
-unfolding M._>>=_ defined
-join-modest none b = an-end
-join-modest (some y) none = an-end
-join-modest (some y) (some z) = measured-modest (y ++ z)
-
 pub operated-modest : (ls made : List (List ℕ)) (o : Operator) (v w : Value) → Modest (is-join o) (operated ls made o v w)
 unfolding operated is-join
 operated-modest ls made Operator.plus v w = integers-modest v w _ (λ y z. ranged-modest (y +ℤ z))
@@ -75,7 +68,7 @@ operated-modest ls made Operator.minus v w = integers-modest v w _ (λ y z. rang
 operated-modest ls made Operator.times v w = integers-modest v w _ (λ y z. ranged-modest (y *ℤ z))
 operated-modest ls made Operator.over v w = integers-modest v w _ (λ y z. over-modest y z)
 operated-modest ls made Operator.less v w = integers-modest v w _ (λ y z. flag-modest (ltZ y z))
-operated-modest ls made Operator.join v w = join-modest (joined ls made v) (joined ls made w)
+operated-modest ls made Operator.join v w = measured-modest (join-bytes ls made v w)
 operated-modest ls made Operator.equal v w = flag-modest _
 operated-modest ls made Operator.and v w = flag-modest _
 operated-modest ls made Operator.or v w = flag-modest _

@@ -1,7 +1,7 @@
 -- `:=` of a join, after reserve: the end that it meets, and that the join put at the path is what commit does. Assumes nothing.
 use Prim.Native.Nat.{ℕ, zero, suc, _+_, _/_, _%_, _≤_, _<_}
 use mathlib.Core.Path.{_≡_, refl, _∙_, ap, sym}
-use mathlib.Core.Bool.{Bool, true, false, not, true≢false}
+use mathlib.Core.Bool.{Bool, true, false, true≢false}
 use mathlib.Core.List.{List, [], _∷_}
 use native.Mathlib.Omega.{arith}
 use native.Mathlib.Decide.{decLt}
@@ -10,6 +10,7 @@ use lib.ListN.{length, take, getElem?}
 use types.Run.{hit}
 use borrow.Author.Tests.{eqb-true, le-leb, lt-leb}
 use Rattle.framed.specs.declared.Value.{Value}
+use Rattle.framed.specs.Values.{join-bytes}
 use Rattle.framed.specs.Machine.{defined, is-join, right-side}
 use Rattle.tables.specs.declared.ExpressionEntry.{ExpressionEntry}
 use Rattle.tables.specs.declared.InstructionEntry.{InstructionEntry}
@@ -30,8 +31,8 @@ use Rattle.texts.specs.Literals.{literals-held}
 use Rattle.texts.specs.Texts.{Readable}
 use Rattle.splice.specs.Splice.{splice}
 use Rattle.shown.specs.Shown.{shown-size}
-use Rattle.joining.specs.Joining.{joinable, join-end, join-result, join-bytes}
-use Rattle.joining.proofs.Laws.{end-first, end-second, end-long, end-none, join-length, filled-front}
+use Rattle.joining.specs.Joining.{join-end, join-result}
+use Rattle.joining.proofs.Laws.{end-long, end-none, join-length, filled-front}
 use Rattle.joining.proofs.Meaning.{join-means, join-fits}
 use Rattle.bounded.specs.Operations.{operated}
 use Rattle.bounded.specs.Check.{end-of, slot-end, target-end}
@@ -185,26 +186,18 @@ module _ (p l h t : List ℕ) (i : ℕ) (v w : Value) (on : JoinsValues p l h t 
   readable : Readable p l h t
   readable = on .can .checks .memories .readable
 
-  module _ (b : Bool) (eb : b ≡ joinable v) where
-    pub first-ended : not b ≡ true → JoinsOnce p l h t i 31 h t
-    first-ended z = values-ended 31 (end-first p h v w b eb z) (λ q. omega arith)
+  module _ (n : ℕ) (en : n ≡ shown-size p h v + shown-size p h w) where
+    pub long-ended : 64 < n → JoinsOnce p l h t i 34 h t
+    long-ended lt = values-ended 34 (end-long p h v w _ _ _ _ refl refl refl refl (omega arith)) (λ q. omega arith)
 
-    module _ (one : not b ≡ false) (c : Bool) (ec : c ≡ joinable w) where
-      pub second-ended : not c ≡ true → JoinsOnce p l h t i 31 h t
-      second-ended z = values-ended 31 (end-second p h v w b eb one c ec z) (λ q. omega arith)
-
-      module _ (two : not c ≡ false) (n : ℕ) (en : n ≡ shown-size p h v + shown-size p h w) where
-        pub long-ended : 64 < n → JoinsOnce p l h t i 34 h t
-        long-ended lt = values-ended 34 (end-long p h v w b eb one c ec two _ _ _ _ refl refl refl refl (omega arith)) (λ q. omega arith)
-
-        pub can-put : n ≤ 64 → (m m′ : List ℕ) → length m ≡ 64 → m′ ≡ splice m 0 (join-bytes (literals-held p l) (texts-held h t) v w) → CanPutJoin p l h t i (take n m′)
-        can-put le m m′ size e = record {
-          left = v;
-          right = w;
-          values = on;
-          end = end-none p h v w b eb one c ec two _ _ _ _ refl refl refl refl (omega arith);
-          bytes = filled-front p l h t v w n en le m m′ size e;
-        }
+    pub can-put : n ≤ 64 → (m m′ : List ℕ) → length m ≡ 64 → m′ ≡ splice m 0 (join-bytes (literals-held p l) (texts-held h t) v w) → CanPutJoin p l h t i (take n m′)
+    can-put le m m′ size e = record {
+      left = v;
+      right = w;
+      values = on;
+      end = end-none p h v w _ _ _ _ refl refl refl refl (omega arith);
+      bytes = filled-front p l h t v w n en le m m′ size e;
+    }
 
 -- ---- put_join
 

@@ -7,11 +7,12 @@ use mathlib.Core.List.{List}
 use lib.Dec.{eqb, leb}
 use Rattle.words.specs.Words.{pick}
 use Rattle.framed.specs.declared.Value.{Value}
+use Rattle.framed.specs.Values.{join-bytes}
 use Rattle.framed.specs.Machine.{gives}
 use Rattle.tables.specs.Fields.{instruction-kind, instruction-c, expression-kind, expression-a, expression-b}
 use Rattle.heap.specs.Held.{texts-held}
 use Rattle.texts.specs.Literals.{literals-held}
-use Rattle.joining.specs.Joining.{join-end, join-bytes}
+use Rattle.joining.specs.Joining.{join-end}
 use Rattle.operands.specs.Operands.{operand-value}
 use Rattle.checking.specs.Checking.{ChecksInstruction}
 use Rattle.commit.specs.Commit.{CanCommit, Commits}

@@ -59,12 +59,6 @@ fn join_values(
     requires { ⌜ TextsFull (now h) least ⌝ }
     ensures { λ r. ⌜ JoinsOnce (now (p .entry)) (now (l .entry)) (now (h .entry)) (now (t .entry)) i r (now (h .exit)) (now (t .exit)) ⌝ }
 {
-    if !joining::joinable(v) {
-        return 31;
-    }
-    if !joining::joinable(w) {
-        return 31;
-    }
     let mut bytes = [0u8; 64];
     let n = joining::fill_join(&mut bytes, p, l, h, t, v, w);
     if 64 < n {

@@ -138,26 +138,15 @@ impl Step<'_> {
         })
     }
 
-    /// The first of two operands whose kind an operator does not take.
+    /// The first of two operands that is no integer.
     fn wrong_kind(&self, operator: Operator, a: Operand, b: Operand) -> (u32, String) {
-        let join = operator == Operator::Join;
-        let takes = |value| match value {
-            Value::Integer(_) => true,
-            Value::Literal(_) | Value::Made(_) => join,
-            _ => false,
-        };
-        let wrong = if takes(a.value) { b } else { a };
+        let wrong = if matches!(a.value, Value::Integer(_)) { b } else { a };
         let (shown, kind, sign) = (self.shown(wrong.x), kind(wrong.value), operator.sign());
-        let detail = if join {
-            format!("`#` joins texts and integers; {shown} is {kind}")
-        } else {
-            format!("{shown} is {kind}, and `{sign}` wants two integers")
-        };
-        (wrong.x, detail)
+        (wrong.x, format!("{shown} is {kind}, and `{sign}` wants two integers"))
     }
 
     fn joined(&self, a: Value, b: Value) -> String {
-        let length: usize = [a, b].into_iter().filter_map(|value| self.machine.joined_length(value).ok()).sum();
+        let length = self.machine.shown_length(a) + self.machine.shown_length(b);
         format!("the joined text would have {length} bytes, {STRING_BYTES} are the most")
     }
 

@@ -35,6 +35,10 @@ impl From<End> for Halt {
     }
 }
 
+/// How a frame and a code are shown and joined.
+const FRAME_WORD: &[u8] = b"frame";
+const CODE_WORD: &[u8] = b"code";
+
 /// What an expression without frame literals gives: a value, or two values to be joined.
 pub(crate) enum Product {
     Value(Value),
@@ -118,8 +122,8 @@ impl<'a> Machine<'a> {
         let value = self.base(x)?;
         let mut digits = [0; DECIMAL_BYTES];
         let text = match value {
-            Value::Frame(_) => b"frame",
-            Value::Code(_) => &b"code"[..],
+            Value::Frame(_) => FRAME_WORD,
+            Value::Code(_) => CODE_WORD,
             Value::Integer(n) => decimal(n, &mut digits),
             Value::Literal(_) | Value::Made(_) => self.text(value).unwrap_or_default(),
         };
@@ -227,7 +231,7 @@ impl<'a> Machine<'a> {
             Operator::And => i32::from(v.truth() && w.truth()),
             Operator::Or => i32::from(v.truth() || w.truth()),
             Operator::Join => {
-                if self.joined_length(v)? + self.joined_length(w)? > STRING_BYTES {
+                if self.shown_length(v) + self.shown_length(w) > STRING_BYTES {
                     return Err(End::TextLength);
                 }
                 return Ok(Product::Joined(v, w));
@@ -258,10 +262,13 @@ impl<'a> Machine<'a> {
         }
     }
 
-    pub(crate) fn joined_length(&self, value: Value) -> Result<usize, End> {
+    /// How many bytes a show writes of a value, without byte 10, and a join takes of it.
+    pub(crate) fn shown_length(&self, value: Value) -> usize {
         match value {
-            Value::Integer(n) => Ok(decimal_length(n)),
-            _ => self.text(value).map(<[u8]>::len).ok_or(End::NoRule),
+            Value::Frame(_) => FRAME_WORD.len(),
+            Value::Code(_) => CODE_WORD.len(),
+            Value::Integer(n) => decimal_length(n),
+            Value::Literal(_) | Value::Made(_) => self.text(value).map_or(0, <[u8]>::len),
         }
     }
 
@@ -281,7 +288,7 @@ impl<'a> Machine<'a> {
         Value::Made(k)
     }
 
-    /// Writes the bytes of a value that is joined from a text byte on.
+    /// Writes what is shown of a value from a text byte on.
     fn copy_text(&mut self, value: Value, at: usize) -> usize {
         let mut digits = [0; DECIMAL_BYTES];
         let bytes = match value {
@@ -295,7 +302,8 @@ impl<'a> Machine<'a> {
                 let length = self.program[layout::literal_length(k)] as usize;
                 &self.literals[layout::text(k)..][..length]
             }
-            Value::Code(_) | Value::Frame(_) => &[],
+            Value::Frame(_) => FRAME_WORD,
+            Value::Code(_) => CODE_WORD,
         };
         self.texts[at..at + bytes.len()].copy_from_slice(bytes);
         bytes.len()

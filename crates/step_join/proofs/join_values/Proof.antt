@@ -1,21 +1,9 @@
 use native.Mathlib.Omega.{arith}
 use Rattle.joining.proofs.Laws.{front-size}
-use Rattle.step_join.proofs.Laws.{first-ended, second-ended, long-ended, can-put}
+use Rattle.step_join.proofs.Laws.{long-ended, can-put}
 use borrow.Author.Needs.{needs}
 use Rattle.step_join.proofs.join_values.Statement.{statement}
 use Rattle.step_join.proofs.join_values.Tie as tie
-
-joinable-requires : tie.Need-joinable-requires
-joinable-requires c κs = search needs
-
-returns : tie.Need-returns
-returns c = search first-ended
-
-joinable-requires-2 : tie.Need-joinable-requires-2
-joinable-requires-2 c κs = search needs
-
-returns-2 : tie.Need-returns-2
-returns-2 c = search second-ended
 
 slice-aggregate-fill-join : tie.Need-slice-aggregate-fill-join
 slice-aggregate-fill-join c = search needs
@@ -29,8 +17,8 @@ same-length c = search needs
 same-length-2 : tie.Need-same-length-2
 same-length-2 c = search needs
 
-returns-3 : tie.Need-returns-3
-returns-3 c = search long-ended
+returns : tie.Need-returns
+returns c = search long-ended
 
 array-share-prefix-bytes : tie.Need-array-share-prefix-bytes
 array-share-prefix-bytes c = search needs
@@ -40,11 +28,8 @@ slice-aggregate-put-join c = front-size _ _ (omega arith) (search needs)
 
 put-join-requires : tie.Need-put-join-requires
 put-join-requires c κs =
-    let filled = c .before .before .before .before .before in
-    let second = filled .before .before .before .before in
-    let first = second .before .before in (
-      can-put _ _ _ _ _ _ _ (first .before .before .before .before .before .before .pre .0) _ (first .before .joinable .ensures) (first .if1 .left)
-          _ (second .before .joinable2 .ensures) (second .if2 .left) _ (filled .fill-join .ensures .1) (omega arith) _ _ (search needs) (filled .fill-join .ensures .0),
+    let filled = c .before .before .before .before .before in (
+      can-put _ _ _ _ _ _ _ (search needs) _ (filled .fill-join .ensures .1) (omega arith) _ _ (search needs) (filled .fill-join .ensures .0),
       search needs,
     )
 
@@ -54,25 +39,21 @@ same-length-3 c = search needs
 same-length-4 : tie.Need-same-length-4
 same-length-4 c = search needs
 
-returns-4 : tie.Need-returns-4
-returns-4 c = search needs
+returns-2 : tie.Need-returns-2
+returns-2 c = search needs
 
 pub join-values-spec : {M : Type 1} → statement M
 join-values-spec =
     tie.close
     (tie.spec
-    joinable-requires
-    returns
-    joinable-requires-2
-    returns-2
     slice-aggregate-fill-join
     fill-join-requires
     same-length
     same-length-2
-    returns-3
+    returns
     array-share-prefix-bytes
     slice-aggregate-put-join
     put-join-requires
     same-length-3
     same-length-4
-    returns-4)
+    returns-2)
