@@ -112,6 +112,11 @@ const TEXTS: &str = "frame: [ Main := frame: [
   start := code { self.n := 0; jump ^.loop self; },
   loop := code { self.n := self.n + 1; self.t := \"n = \" # self.n; self.same := self.t == \"n = 5\"; jump ^.loop self; } ] ]";
 
+/// A frame and a code joined in three steps.
+const MESSAGES: &str = "frame: [ Main := frame: [
+  start := code { jump ^.loop self; },
+  loop := code { self.t := \"left in: \" # self; self.t := self.t # ^.loop; jump ^.loop self; } ] ]";
+
 /// A line in three steps.
 const SHOWS: &str = "frame: [ Main := frame: [
   start := code { self.n := 0; jump ^.loop self; },
@@ -174,6 +179,7 @@ const MEASURES: &[Measure] = &[
     Measure { name: "steps, a counting loop", item: "step", seconds: |calls| steps(calls, COUNT, 256) },
     Measure { name: "steps, shown counters", item: "step", seconds: |calls| steps(calls, SHOWS, 256) },
     Measure { name: "steps, joined and compared texts", item: "step", seconds: |calls| steps(calls, TEXTS, 256) },
+    Measure { name: "steps, joined frames and codes", item: "step", seconds: |calls| steps(calls, MESSAGES, 256) },
     Measure {
         name: "frames made, no collection",
         item: "frame",
