@@ -1,4 +1,4 @@
--- Document 01, "The endless machine", the operators: what each gives without regard to where a new text is kept. Assumes nothing.
+-- Document 01, "The endless machine", the operators, `#` with document 02's A3: what each gives without regard to where a new text is kept. Assumes nothing.
 use mathlib.Core.Bool.{Bool, true, false, _||_, _&&_}
 use mathlib.Core.List.{List}
 use Prim.Native.Nat.{ℕ}

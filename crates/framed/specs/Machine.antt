@@ -1,5 +1,5 @@
 -- Document 01, "The endless machine" (here: the unbounded machine): its state, Put, the value of a base and of an expression,
--- room (here: reserve), and one step. Assumes nothing.
+-- room (here: reserve), and one step; `#` is document 02's, A3. Assumes nothing.
 use mathlib.Core.Path.{_≡_}
 use mathlib.Core.Bool.{Bool, true, false, not, _||_, _&&_}
 use mathlib.Core.List.{List, [], _∷_, _++_}
