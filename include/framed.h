@@ -26,9 +26,9 @@ extern "C" {
 #endif
 
 #define FRAMED_VERSION_MAJOR 0
-#define FRAMED_VERSION_MINOR 4
+#define FRAMED_VERSION_MINOR 5
 #define FRAMED_VERSION_PATCH 0
-#define FRAMED_VERSION "0.4.0"
+#define FRAMED_VERSION "0.5.0"
 
 /* The lengths that the four memories must have, in words and bytes. */
 #define FRAMED_PROGRAM_WORDS 16384
@@ -107,7 +107,7 @@ uint32_t framed_load(const uint8_t *source, size_t source_length, uint32_t frame
  * Answers why it stopped; *steps and *bytes become the steps made and the bytes written. After an end from 31 to 37 the
  * memories keep it, and every later run answers it again. With FRAMED_NOT_WHOLE nothing is written, *steps and *bytes
  * included.
- * Stack: at most 15,825 bytes over program words that load wrote, 197,552 over any memories, which may nest frame literals
+ * Stack: at most 16,120 bytes over program words that load wrote, 317,448 over any memories, which may nest frames and code
  * deeper than a source. */
 uint32_t framed_run(const uint32_t *program, size_t program_length, uint32_t *heap, size_t heap_length,
                     const uint8_t *literals, size_t literals_length, uint8_t *text_bytes, size_t text_length,

@@ -4,6 +4,7 @@
 
 mod common;
 
+use common::blocks::Compared;
 use common::{damage, damaged_source, long_source, other_length, path_text, random_bytes, rounds};
 use common::{stored_sources, Random, Writer};
 use framed::{machine, plain, Memories, Refusal, RunReport};
@@ -155,6 +156,18 @@ fn generated_sources_and_lists_of_calls() {
 }
 
 #[test]
+fn compared_blocks_and_lists_of_calls() {
+    let mut random = Random(16);
+    for _ in 0..rounds(300) {
+        let compared = Compared::new(&mut random);
+        let mut pair = Pair::new(Memories::new());
+        let (frames, texts) = limits(&mut random);
+        let _ = pair.load(compared.source.as_bytes(), frames, texts);
+        pair.calls(8, &mut random);
+    }
+}
+
+#[test]
 fn damaged_sources() {
     let mut random = Random(13);
     let stored = stored_sources();
@@ -176,7 +189,8 @@ fn damaged_sources() {
 fn damaged_memories() {
     let mut random = Random(14);
     for _ in 0..rounds(150) {
-        let source = Writer::source(&mut random);
+        let source =
+            if random.one_in(3) { Compared::new(&mut random).source } else { Writer::source(&mut random) };
         let mut pair = Pair::new(Memories::new());
         let _ = pair.load(source.as_bytes(), random.pick(&[9, 40, 256]), random.pick(&[2, 256]));
         let _ = pair.run(random.below(60) as u32, 400);

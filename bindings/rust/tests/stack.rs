@@ -5,8 +5,8 @@
 
 mod common;
 
-use common::{damage, damaged_source, deep, long_source, other_length, path_text, random_bytes, rounds};
-use common::{stored_sources, Random, Writer};
+use common::{code_chain, compare_next, comparing, damage, damaged_source, deep, long_source, other_length};
+use common::{path_text, random_bytes, rounds, stored_sources, Random, Writer};
 use framed::{plain, Memories, TEXT_BUFFER};
 use std::arch::asm;
 use std::collections::BTreeMap;
@@ -136,11 +136,23 @@ const FORMS: [&str; 12] = [
 const INNERMOST: [&str; 9] =
     ["1", "\"a\"", "self", "^.x", "!self.x", "1 + 2", "\"a\" # -2147483648", "frame: []", "code { show self; }"];
 
+/// A form so many times around something.
+fn around(form: &str, times: usize, innermost: &str) -> String {
+    (0..times).fold(innermost.to_string(), |inner, _| form.replace('@', &inner))
+}
+
 /// A source with a form so many times around something, outside code and in code that runs.
 fn nested(form: &str, times: usize, innermost: &str) -> [String; 2] {
-    let x = (0..times).fold(innermost.to_string(), |inner, _| form.replace('@', &inner));
+    let x = around(form, times, innermost);
     [x.clone(), format!("code {{ self.x := {x}; show self.x; }}")]
         .map(|x| format!("frame: [ Main := frame: [ start := code {{ jump ^.^.x self; }} ], x := {x} ]"))
+}
+
+/// A source with a form so many times around something, twice, which are compared in so many frames.
+fn compared(form: &str, times: usize, innermost: &str, frames: usize) -> String {
+    let x = around(form, times, innermost);
+    let equal = around(FORMS[0], frames, "^.^.x == ^.^.y");
+    format!("frame: [ Main := frame: [ start := code {{ self.x := {equal}; }} ], x := {x}, y := {x} ]")
 }
 
 /// `self :=` so many frame literals, each the one slot of the one around it, and innermost a join. No source nests so
@@ -172,6 +184,14 @@ fn measured() -> Stack {
             stack.source(source.as_bytes(), random);
         }
     }
+    for (form, innermost) in FORMS.into_iter().flat_map(|form| INNERMOST.map(|innermost| (form, innermost))) {
+        for (times, frames) in [(7, 0), (7, 13), (15, 0), (15, 13), (14, 13), (13, 13)] {
+            let (source, mut m) = (compared(form, times, innermost, frames), Memories::new());
+            if stack.load(&mut m, source.as_bytes(), 256, 256) {
+                stack.go_on(LOADED, &mut m, random);
+            }
+        }
+    }
     for _ in 0..rounds(300) {
         let source = Writer::source(random).into_bytes();
         let other = damaged_source(&stored[random.below(stored.len())], random);
@@ -187,6 +207,21 @@ fn measured() -> Stack {
     // outside code, in one code, and in as many codes as there can be
     for (outside, codes, inside) in [(1_020, 1, 0), (0, 1, 1_020), (893, 128, 0), (125, 128, 6)] {
         stack.go_on(ANY, &mut deep(outside, codes, inside), random);
+    }
+    // a code is compared with the next inside it, in no frame or in as many as can be made
+    for (outer, codes, frames, doubled) in [
+        (0, 127, 7, false),
+        (0, 127, 6, true),
+        (0, 2, 507, false),
+        (255, 127, 5, false),
+        (255, 127, 4, true),
+        (255, 2, 380, false),
+    ] {
+        let mut built = comparing(outer);
+        let first = code_chain(&mut built, codes, frames, doubled, 7);
+        let mut m = built.whole(1);
+        compare_next(&mut m, first, first + 1);
+        stack.go_on(ANY, &mut m, random);
     }
     stack
 }

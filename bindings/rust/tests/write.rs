@@ -2,10 +2,8 @@
 //! memories that load made loads again as the same memories; whole memories that no source has give an answer too, at once.
 mod common;
 
-use common::{deep, long_source, rounds, stored_sources, text, Built, Random, Writer};
+use common::{deep, long_source, rounds, stored_sources, text, within, Built, Random, Writer};
 use framed::{plain, Memories, Refusal, SOURCE_BYTES, TEXT_BUFFER};
-use std::sync::mpsc;
-use std::thread;
 use std::time::Duration;
 
 fn load(source: &[u8], frames: u32, texts: u32) -> Result<Memories, Refusal> {
@@ -214,19 +212,6 @@ fn not_whole() {
     m.heap[5] = 38;
     assert_eq!(written(&m, 0), Err(Refusal(20)));
     assert_eq!(written(&m, TEXT_BUFFER), Err(Refusal(20)));
-}
-
-/// Gives up where something takes longer than this.
-fn within<T: Send + 'static>(limit: Duration, work: impl FnOnce() -> T + Send + 'static) -> T {
-    let (sender, receiver) = mpsc::channel();
-    let worker = thread::spawn(move || sender.send(work()).unwrap());
-    match receiver.recv_timeout(limit) {
-        Ok(done) => done,
-        Err(mpsc::RecvTimeoutError::Timeout) => panic!("no answer in {limit:?}"),
-        Err(mpsc::RecvTimeoutError::Disconnected) => {
-            std::panic::resume_unwind(worker.join().expect_err("a worker that did not answer"))
-        }
-    }
 }
 
 /// Each instruction names one code literal two or three times, so that the text has more than 2^60 bytes.

@@ -19,6 +19,7 @@ use Rattle.framed.specs.Paths.{Path}
 use Rattle.framed.specs.Meaning.{slot-names}
 use Rattle.framed.specs.Program.{Program}
 use Rattle.framed.specs.Values.{Slot, Frame, Heap, new-frame, with-slots, truth, bit}
+use Rattle.framed.specs.Equality.{Constants, constants}
 use Rattle.framed.specs.Fetch.{in-slots, in-frame}
 use Rattle.framed.specs.Machine.{Result, gives, ends, base-value, operate, with-frame, with-frames, frame-literals, frame-literals-in, is-join, join-signs, join-signs-in}
 use Rattle.framed.specs.Machine as M
@@ -80,14 +81,14 @@ bit-rel {R} a b e = subst (λ (c : Bool). ValueRel R (bit a) (bit c)) e (same a)
     same false = integers
 
 -- the unbounded machine's operation between two bases
-operation-is : (ls : List (List ℕ)) (Σ Π : Value) (o : Operator) (a b : Base Path) (h : Heap) →
-    M.evaluate ls Σ Π (Expression.operation o a b) h ≡ keep (operation-result ls Σ Π h o a b) h
+operation-is : (cs : Constants) (Σ Π : Value) (o : Operator) (a b : Base Path) (h : Heap) →
+    M.evaluate cs Σ Π (Expression.operation o a b) h ≡ keep (operation-result cs Σ Π h o a b) h
 unfolding M.evaluate operation-result M._>>=_ keep
-operation-is ls Σ Π o a b h = step (base-value Σ Π (h .frames) a) (base-value Σ Π (h .frames) b)
+operation-is cs Σ Π o a b h = step (base-value Σ Π (h .frames) a) (base-value Σ Π (h .frames) b)
   where
     step : (x y : Result Value) →
-        M._>>=_ x (λ v. M._>>=_ y (λ w. operate ls o v w h)) ≡ keep (M._>>=_ x (λ v. M._>>=_ y (λ w. operated ls (h .texts) o v w))) h
-    step (gives v) (gives w) = operate-is ls o v w h
+        M._>>=_ x (λ v. M._>>=_ y (λ w. operate cs o v w h)) ≡ keep (M._>>=_ x (λ v. M._>>=_ y (λ w. operated cs (h .texts) o v w))) h
+    step (gives v) (gives w) = operate-is cs o v w h
     step (gives v) (ends e) = refl
     step (ends e) y = refl
 
@@ -147,8 +148,8 @@ module _ {S : Type 0} (𝓞 : Store S) (p : Program) (𝓛 : Laws 𝓞 p) (fits 
   -- the state before the instruction, in which the check reads
   module _ (R₀ : Rel) (H₀ K₀ : View) (S₀ : Simulates R₀ H₀ K₀) (Σ Σ′ Π Π′ : Value) (rΣ : ValueRel R₀ Σ Σ′) (rΠ : ValueRel R₀ Π Π′)
       (vΣ : Valid p H₀ Σ) (vΠ : Valid p H₀ Π) where
-    abbrev ls : List (List ℕ)
-    ls = p .literals
+    abbrev cs : Constants
+    cs = constants p
 
     -- where the evaluation stands, with n frames and c texts to come
     pub record Here (s : S) (h : Heap) (R : Rel) (n c : ℕ) : Type 0 where
@@ -206,7 +207,7 @@ module _ {S : Type 0} (𝓞 : Store S) (p : Program) (𝓛 : Laws 𝓞 p) (fits 
       }
 
       base-out : (b : Base Path) → BaseFits p b →
-          Evaluates n c s h R (check-expression ls Σ Π (H₀ .heap) (Expression.base b)) (B.evaluate 𝓞 ls Σ Π (Expression.base b) s) (M.evaluate ls Σ′ Π′ (Expression.base b) h)
+          Evaluates n c s h R (check-expression cs Σ Π (H₀ .heap) (Expression.base b)) (B.evaluate 𝓞 cs Σ Π (Expression.base b) s) (M.evaluate cs Σ′ Π′ (Expression.base b) h)
       unfolding check-expression B.evaluate M.evaluate M._>>=_ end-of value-given
       base-out b f = rw (base-stable b) (step (base-here b) (valid-here b f))
         where
@@ -216,7 +217,7 @@ module _ {S : Type 0} (𝓞 : Store S) (p : Program) (𝓛 : Laws 𝓞 p) (fits 
           step (both-give r) (reads a) = inr (unchanged refl refl r a)
 
       not-out : (b : Base Path) → BaseFits p b →
-          Evaluates n c s h R (check-expression ls Σ Π (H₀ .heap) (Expression.not b)) (B.evaluate 𝓞 ls Σ Π (Expression.not b) s) (M.evaluate ls Σ′ Π′ (Expression.not b) h)
+          Evaluates n c s h R (check-expression cs Σ Π (H₀ .heap) (Expression.not b)) (B.evaluate 𝓞 cs Σ Π (Expression.not b) s) (M.evaluate cs Σ′ Π′ (Expression.not b) h)
       unfolding check-expression B.evaluate M.evaluate M._>>=_ end-of value-given
       not-out b f = rw (base-stable b) (step (base-here b))
         where
@@ -282,11 +283,11 @@ module _ {S : Type 0} (𝓞 : Store S) (p : Program) (𝓛 : Laws 𝓞 p) (fits 
     product-out s h R n c H (succeeds (small-text {bs = bs} short string)) = inr (text-done s h R n H bs short string)
 
     operation-out : (s : S) (h : Heap) (R : Rel) (n : ℕ) (o : Operator) (a b : Base Path) → BaseFits p a → BaseFits p b → Here s h R n (is-join o) →
-        Evaluates n (is-join o) s h R (check-expression ls Σ Π (H₀ .heap) (Expression.operation o a b))
-        (B.evaluate 𝓞 ls Σ Π (Expression.operation o a b) s) (M.evaluate ls Σ′ Π′ (Expression.operation o a b) h)
+        Evaluates n (is-join o) s h R (check-expression cs Σ Π (H₀ .heap) (Expression.operation o a b))
+        (B.evaluate 𝓞 cs Σ Π (Expression.operation o a b) s) (M.evaluate cs Σ′ Π′ (Expression.operation o a b) h)
     unfolding check-expression B.evaluate
     operation-out s h R n o a b f g H =
-        rw (operation-is ls Σ′ Π′ o a b h, operation-rel (check-side s h R n (is-join o) H) ls rΣ rΠ o a b, ← operation-rel (both s h R n (is-join o) H) ls rΣ rΠ o a b)
+        rw (operation-is cs Σ′ Π′ o a b h, operation-rel (check-side s h R n (is-join o) H) cs rΣ rΠ o a b, ← operation-rel (both s h R n (is-join o) H) cs rΣ rΠ o a b)
         (product-out s h R n (is-join o) H
         (operation-small 𝓞 p 𝓛 fits s (H .well-formed) Σ Π (valid-kept (extends-keeps (H .ext)) vΣ) (valid-kept (extends-keeps (H .ext)) vΠ) o a b f g))
 
@@ -489,7 +490,7 @@ module _ {S : Type 0} (𝓞 : Store S) (p : Program) (𝓛 : Laws 𝓞 p) (fits 
       unfolding check-expression B.evaluate M.evaluate frame-literals join-signs
 
       pub evaluate-out : (e : Expression Path) → ExpressionFits p e → (s : S) (h : Heap) (R : Rel) → Here s h R (frame-literals e) (join-signs e) →
-          Evaluates (frame-literals e) (join-signs e) s h R (check-expression ls Σ Π (H₀ .heap) e) (B.evaluate 𝓞 ls Σ Π e s) (M.evaluate ls Σ′ Π′ e h)
+          Evaluates (frame-literals e) (join-signs e) s h R (check-expression cs Σ Π (H₀ .heap) e) (B.evaluate 𝓞 cs Σ Π e s) (M.evaluate cs Σ′ Π′ e h)
       evaluate-out (Expression.base b) t s h R H = base-out s h R 0 0 H b t
       evaluate-out (Expression.not b) t s h R H = not-out s h R 0 0 H b t
       evaluate-out (Expression.operation o a b) t s h R H = operation-out s h R 0 o a b (t .0) (t .1) H
@@ -500,7 +501,7 @@ module _ {S : Type 0} (𝓞 : Store S) (p : Program) (𝓛 : Laws 𝓞 p) (fits 
 
       pub fill-out : (ss : Slots Path) → SlotsFit p ss → (k : ℕ) (f : Frame) (s : S) (h : Heap) (R : Rel) → Here s h R (frame-literals-in ss) (join-signs-in ss) →
           Open k f s R ss →
-          Fills (frame-literals-in ss) (join-signs-in ss) k f s h R (check-slots ls Σ Π (H₀ .heap) ss) (B.fill 𝓞 ls Σ Π k ss s) (M.fill ls Σ′ Π′ ss h)
+          Fills (frame-literals-in ss) (join-signs-in ss) k f s h R (check-slots cs Σ Π (H₀ .heap) ss) (B.fill 𝓞 cs Σ Π k ss s) (M.fill cs Σ′ Π′ ss h)
       fill-out Slots.no-slots t k f s h R H P = inr (record {
         passes = refl;
         value = [];
@@ -520,6 +521,6 @@ module _ {S : Type 0} (𝓞 : Store S) (p : Program) (𝓛 : Laws 𝓞 p) (fits 
         taken = record { frames = omega arith; texts = omega arith };
       })
       fill-out (Slots.slot x e ss) t k f s h R H P =
-          slot-out x (frame-literals e) (frame-literals-in ss) (join-signs e) (join-signs-in ss) k f ss e s h R _ _ _ _ _ (λ g. M.fill ls Σ′ Π′ ss g) (t .0) (t .1) H P
+          slot-out x (frame-literals e) (frame-literals-in ss) (join-signs e) (join-signs-in ss) k f ss e s h R _ _ _ _ _ (λ g. M.fill cs Σ′ Π′ ss g) (t .0) (t .1) H P
           (evaluate-out e (t .2) s h R (record { well-formed = H .well-formed; heaps = H .heaps; up = H .up; ext = H .ext; ext′ = H .ext′; room = omega (arith, H .room); text-room = omega (arith, H .text-room) }))
           (λ D here′ opened. fill-out ss (t .3) k _ _ (D .heap) (D .R′) here′ opened)

@@ -17,6 +17,7 @@ use Rattle.framed.specs.Common.{if_then_else_, bytes}
 use Rattle.framed.specs.Bytes.{string-byte}
 use Rattle.framed.specs.Tokens.{Operator, in-range}
 use Rattle.framed.specs.Values.{Heap, text-bytes, digits-within, decimal, shown, join-bytes, bit}
+use Rattle.framed.specs.Equality.{Constants}
 use Rattle.framed.specs.Machine.{Result, gives, ends, integer-in, integer-result, quotient, new-text, operate, Evaluated, is-join}
 use Rattle.framed.specs.Machine as M
 use Rattle.bounded.specs.Fits.{StringBytes}
@@ -71,17 +72,17 @@ over-is h y z = step (quotient y z)
     step (gives q) = ranged-is q h
     step (ends e) = refl
 
-pub operate-is : (ls : List (List ℕ)) (o : Operator) (v w : Value) (h : Heap) → operate ls o v w h ≡ keep (operated ls (h .texts) o v w) h
+pub operate-is : (cs : Constants) (o : Operator) (v w : Value) (h : Heap) → operate cs o v w h ≡ keep (operated cs (h .texts) o v w) h
 unfolding operate operated
-operate-is ls Operator.plus v w h = two-is h (integer-in v) (integer-in w) _ _ (λ y z. ranged-is (y +ℤ z) h)
-operate-is ls Operator.minus v w h = two-is h (integer-in v) (integer-in w) _ _ (λ y z. ranged-is (y -ℤ z) h)
-operate-is ls Operator.times v w h = two-is h (integer-in v) (integer-in w) _ _ (λ y z. ranged-is (y *ℤ z) h)
-operate-is ls Operator.over v w h = two-is h (integer-in v) (integer-in w) _ _ (λ y z. over-is h y z)
-operate-is ls Operator.less v w h = two-is h (integer-in v) (integer-in w) _ _ (λ y z. flag-is (ltZ y z) h)
-operate-is ls Operator.join v w h = measured-is (join-bytes ls (h .texts) v w) h
-operate-is ls Operator.equal v w h = flag-is _ h
-operate-is ls Operator.and v w h = flag-is _ h
-operate-is ls Operator.or v w h = flag-is _ h
+operate-is cs Operator.plus v w h = two-is h (integer-in v) (integer-in w) _ _ (λ y z. ranged-is (y +ℤ z) h)
+operate-is cs Operator.minus v w h = two-is h (integer-in v) (integer-in w) _ _ (λ y z. ranged-is (y -ℤ z) h)
+operate-is cs Operator.times v w h = two-is h (integer-in v) (integer-in w) _ _ (λ y z. ranged-is (y *ℤ z) h)
+operate-is cs Operator.over v w h = two-is h (integer-in v) (integer-in w) _ _ (λ y z. over-is h y z)
+operate-is cs Operator.less v w h = two-is h (integer-in v) (integer-in w) _ _ (λ y z. flag-is (ltZ y z) h)
+operate-is cs Operator.join v w h = measured-is (join-bytes (cs .literals) (h .texts) v w) h
+operate-is cs Operator.equal v w h = flag-is _ h
+operate-is cs Operator.and v w h = flag-is _ h
+operate-is cs Operator.or v w h = flag-is _ h
 
 -- ---- The string rule
 
@@ -187,15 +188,15 @@ join-string : (ls made : List (List ℕ)) (v w : Value) → StringBytes (shown l
 unfolding join-bytes
 join-string ls made v w f g = string-append (shown ls made v) (shown ls made w) f g
 
-pub operated-small : (ls made : List (List ℕ)) (o : Operator) (v w : Value) → StringBytes (shown ls made v) → StringBytes (shown ls made w) →
-    Outcome (is-join o) (operated ls made o v w)
+pub operated-small : (cs : Constants) (made : List (List ℕ)) (o : Operator) (v w : Value) → StringBytes (shown (cs .literals) made v) → StringBytes (shown (cs .literals) made w) →
+    Outcome (is-join o) (operated cs made o v w)
 unfolding operated is-join
-operated-small ls made Operator.plus v w f g = integers-small v w _ (λ y z. ranged-small (y +ℤ z))
-operated-small ls made Operator.minus v w f g = integers-small v w _ (λ y z. ranged-small (y -ℤ z))
-operated-small ls made Operator.times v w f g = integers-small v w _ (λ y z. ranged-small (y *ℤ z))
-operated-small ls made Operator.over v w f g = integers-small v w _ (λ y z. over-small y z)
-operated-small ls made Operator.less v w f g = integers-small v w _ (λ y z. succeeds (flag-small (ltZ y z)))
-operated-small ls made Operator.join v w f g = measured-small (join-bytes ls made v w) (join-string ls made v w f g)
-operated-small ls made Operator.equal v w f g = succeeds (flag-small _)
-operated-small ls made Operator.and v w f g = succeeds (flag-small _)
-operated-small ls made Operator.or v w f g = succeeds (flag-small _)
+operated-small cs made Operator.plus v w f g = integers-small v w _ (λ y z. ranged-small (y +ℤ z))
+operated-small cs made Operator.minus v w f g = integers-small v w _ (λ y z. ranged-small (y -ℤ z))
+operated-small cs made Operator.times v w f g = integers-small v w _ (λ y z. ranged-small (y *ℤ z))
+operated-small cs made Operator.over v w f g = integers-small v w _ (λ y z. over-small y z)
+operated-small cs made Operator.less v w f g = integers-small v w _ (λ y z. succeeds (flag-small (ltZ y z)))
+operated-small cs made Operator.join v w f g = measured-small (join-bytes (cs .literals) made v w) (join-string (cs .literals) made v w f g)
+operated-small cs made Operator.equal v w f g = succeeds (flag-small _)
+operated-small cs made Operator.and v w f g = succeeds (flag-small _)
+operated-small cs made Operator.or v w f g = succeeds (flag-small _)

@@ -17,7 +17,8 @@ use Rattle.framed.specs.Common.{same}
 use Rattle.framed.specs.Tokens.{Operator}
 use Rattle.framed.specs.Tree.{Base, Code}
 use Rattle.framed.specs.Paths.{Path, from-self, from-program}
-use Rattle.framed.specs.Values.{Slot, Frame, new-frame, text-bytes, shown, join-bytes, truth, equal-values}
+use Rattle.framed.specs.Values.{Slot, Frame, new-frame, text-bytes, shown, join-bytes, truth}
+use Rattle.framed.specs.Equality.{Constants, equal-values}
 use Rattle.framed.specs.Fetch.{in-slots, in-frame, frame-of, get, fetch}
 use Rattle.framed.specs.Fetch as F
 use Rattle.framed.specs.Reach.{slot-value, values-in, Reachable}
@@ -183,15 +184,15 @@ integer-rel (texts r) = refl
 integer-rel codes = refl
 integer-rel (frames r) = refl
 
-module _ {R : Rel} {H K : View} (S : Simulates R H K) (ls : List (List ℕ)) where
-  made-rel : (j k : ℕ) → R .text j k → text-bytes ls (H .heap .texts) (Text.Made j) ≡ text-bytes ls (K .heap .texts) (Text.Made k)
+module _ {R : Rel} {H K : View} (S : Simulates R H K) (cs : Constants) where
+  made-rel : (j k : ℕ) → R .text j k → text-bytes (cs .literals) (H .heap .texts) (Text.Made j) ≡ text-bytes (cs .literals) (K .heap .texts) (Text.Made k)
   unfolding text-bytes
   made-rel j k r =
       let l = S .text-link j k r in
       get-default (H .heap .texts) j [] (l .bytes) (text-read H j (l .bytes) (l .at-left))
       ∙ sym (get-default (K .heap .texts) k [] (l .bytes) (text-read K k (l .bytes) (l .at-right)))
 
-  pub shown-rel : {v w : Value} → ValueRel R v w → shown ls (H .heap .texts) v ≡ shown ls (K .heap .texts) w
+  pub shown-rel : {v w : Value} → ValueRel R v w → shown (cs .literals) (H .heap .texts) v ≡ shown (cs .literals) (K .heap .texts) w
   unfolding shown text-bytes
   shown-rel integers = refl
   shown-rel literals = refl
@@ -199,7 +200,7 @@ module _ {R : Rel} {H K : View} (S : Simulates R H K) (ls : List (List ℕ)) whe
   shown-rel codes = refl
   shown-rel (frames r) = refl
 
-  join-rel : {v v′ w w′ : Value} → ValueRel R v v′ → ValueRel R w w′ → join-bytes ls (H .heap .texts) v w ≡ join-bytes ls (K .heap .texts) v′ w′
+  join-rel : {v v′ w w′ : Value} → ValueRel R v v′ → ValueRel R w w′ → join-bytes (cs .literals) (H .heap .texts) v w ≡ join-bytes (cs .literals) (K .heap .texts) v′ w′
   unfolding join-bytes
   join-rel r q = ap₂ (λ (a b : List ℕ). a ++ b) (shown-rel r) (shown-rel q)
 
@@ -210,11 +211,11 @@ module _ {R : Rel} {H K : View} (S : Simulates R H K) (ls : List (List ℕ)) whe
       step (yes e) = eq-eqb a b e ∙ sym (eq-eqb c d (S .frame-right a c d r (subst (λ (n : ℕ). R .frame n d) (sym e) q)))
       step (no e) = ne-eqb a b e ∙ sym (ne-eqb c d (λ i. e (S .frame-left a b d (subst (λ (n : ℕ). R .frame a n) i r) q)))
 
-  literal-rel : (k : ℕ) → text-bytes ls (H .heap .texts) (Text.Literal k) ≡ text-bytes ls (K .heap .texts) (Text.Literal k)
+  literal-rel : (k : ℕ) → text-bytes (cs .literals) (H .heap .texts) (Text.Literal k) ≡ text-bytes (cs .literals) (K .heap .texts) (Text.Literal k)
   unfolding text-bytes
   literal-rel k = refl
 
-  equal-rel : {v v′ w w′ : Value} → ValueRel R v v′ → ValueRel R w w′ → equal-values ls (H .heap .texts) v w ≡ equal-values ls (K .heap .texts) v′ w′
+  equal-rel : {v v′ w w′ : Value} → ValueRel R v v′ → ValueRel R w w′ → equal-values cs (H .heap .texts) v w ≡ equal-values cs (K .heap .texts) v′ w′
   unfolding equal-values
   equal-rel integers integers = refl
   equal-rel integers literals = refl
@@ -246,7 +247,7 @@ module _ {R : Rel} {H K : View} (S : Simulates R H K) (ls : List (List ℕ)) whe
       M._>>=_ (integer-in v) (λ y. M._>>=_ (integer-in w) (λ z. f y z)) ≡ M._>>=_ (integer-in v′) (λ y. M._>>=_ (integer-in w′) (λ z. f y z))
   two-integers f r q = ap₂ (λ a b. M._>>=_ a (λ y. M._>>=_ b (λ z. f y z))) (integer-rel r) (integer-rel q)
 
-  operated-rel : (o : Operator) {v v′ w w′ : Value} → ValueRel R v v′ → ValueRel R w w′ → operated ls (H .heap .texts) o v w ≡ operated ls (K .heap .texts) o v′ w′
+  operated-rel : (o : Operator) {v v′ w w′ : Value} → ValueRel R v v′ → ValueRel R w w′ → operated cs (H .heap .texts) o v w ≡ operated cs (K .heap .texts) o v′ w′
   unfolding operated
   operated-rel Operator.plus r q = two-integers _ r q
   operated-rel Operator.minus r q = two-integers _ r q
@@ -260,12 +261,12 @@ module _ {R : Rel} {H K : View} (S : Simulates R H K) (ls : List (List ℕ)) whe
 
   -- an operation between two bases
   pub operation-rel : {Σ Σ′ Π Π′ : Value} → ValueRel R Σ Σ′ → ValueRel R Π Π′ → (o : Operator) (a b : Base Path) →
-      operation-result ls Σ Π (H .heap) o a b ≡ operation-result ls Σ′ Π′ (K .heap) o a b
+      operation-result cs Σ Π (H .heap) o a b ≡ operation-result cs Σ′ Π′ (K .heap) o a b
   unfolding operation-result M._>>=_
   operation-rel {Σ} {Σ′} {Π} {Π′} s q o a b = step (base-rel S s q a) (base-rel S s q b)
     where
       step : {x x′ y y′ : Result Value} → BaseRel R x x′ → BaseRel R y y′ →
-          M._>>=_ x (λ v. M._>>=_ y (λ w. operated ls (H .heap .texts) o v w)) ≡ M._>>=_ x′ (λ v. M._>>=_ y′ (λ w. operated ls (K .heap .texts) o v w))
+          M._>>=_ x (λ v. M._>>=_ y (λ w. operated cs (H .heap .texts) o v w)) ≡ M._>>=_ x′ (λ v. M._>>=_ y′ (λ w. operated cs (K .heap .texts) o v w))
       step (both-give r) (both-give t) = operated-rel o r t
       step (both-give r) both-end = refl
       step both-end t = refl

@@ -14,6 +14,7 @@ use Rattle.framed.specs.Tree.{Base, Expression, Instruction, Code, _then_}
 use Rattle.framed.specs.Paths.{Path, from-self, from-program, names-of}
 use Rattle.framed.specs.Program.{Program}
 use Rattle.framed.specs.Values.{Frame, Heap, with-slots, shown, truth}
+use Rattle.framed.specs.Equality.{constants}
 use Rattle.framed.specs.Fetch.{get}
 use Rattle.framed.specs.Machine.{State, Effect, Result, gives, ends, defined, base-value, frame-number, put-slot, put, set-slot, with-frames, assign-to, code-of, jump-to, perform, frame-literals, join-signs, right-side, step, after-step}
 use Rattle.framed.specs.Machine as M
@@ -160,7 +161,7 @@ module _ {S : Type 0} (𝓞 : Store S) (p : Program) (𝓛 : Laws 𝓞 p) (fits 
           passes = refl;
           effect = _;
           result-is = refl;
-          same-line = ap (λ (l : List ℕ). l ++ (10 ∷ [])) (shown-rel (A .heaps) (p .literals) r);
+          same-line = ap (λ (l : List ℕ). l ++ (10 ∷ [])) (shown-rel (A .heaps) (constants p) r);
           related = moved rest rest-fits (A .self) (ok .self) _;
           takes = nothing-taken;
         })
@@ -216,13 +217,13 @@ module _ {S : Type 0} (𝓞 : Store S) (p : Program) (𝓛 : Laws 𝓞 p) (fits 
 
     module _ (e : Expression Path) (e-fits : ExpressionFits p e) (frame-room : frames-used H + frame-literals e ≤ F) (text-room : texts-used H + join-signs e ≤ T) where
       r : Produced S
-      r = B.evaluate 𝓞 (p .literals) (b .self) (b .program) e (b .store)
+      r = B.evaluate 𝓞 (constants p) (b .self) (b .program) e (b .store)
 
       checked : ℕ
-      checked = check-expression (p .literals) (b .self) (b .program) (H .heap) e
+      checked = check-expression (constants p) (b .self) (b .program) (H .heap) e
 
       given : Result M.Evaluated
-      given = M.evaluate (p .literals) (s .self) (s .program) e (s .heap)
+      given = M.evaluate (constants p) (s .self) (s .program) e (s .heap)
 
       Value? : Type 1
       Value? = Evaluates 𝓞 p 𝓛 fits (frame-literals e) (join-signs e) (b .store) (s .heap) (A .relation) checked r given

@@ -17,6 +17,7 @@ use Rattle.framed.specs.Tree.{Base, Expression, Slots, Instruction, Code, _then
 use Rattle.framed.specs.Paths.{Path, from-self, from-program}
 use Rattle.framed.specs.Program.{Program}
 use Rattle.framed.specs.Values.{Frame, Heap, truth, join-bytes}
+use Rattle.framed.specs.Equality.{Constants, constants}
 use Rattle.framed.specs.Fetch.{fetch, get}
 use Rattle.framed.specs.Machine.{State, Effect, Result, gives, ends, defined, base-value, integer-in, integer-result, quotient, new-text, operate, evaluate, fill, frame-number, holds, put-slot, put, assign-to, code-of, jump-to, perform, step, after-step, marked, right-side, frame-literals}
 use Rattle.framed.specs.Machine as M
@@ -77,34 +78,34 @@ quotient-within y (pos zero) = (omega arith, omega arith)
 quotient-within y (pos (suc n)) = tt
 quotient-within y (negsuc n) = tt
 
-pub operate-within : (literals : List (List ℕ)) (o : Operator) (v w : Value) (h : Heap) → Within (operate literals o v w h)
+pub operate-within : (cs : Constants) (o : Operator) (v w : Value) (h : Heap) → Within (operate cs o v w h)
 unfolding operate new-text
-operate-within literals Operator.plus v w h = two-integers v w _ (λ y z. result-within _ h)
-operate-within literals Operator.minus v w h = two-integers v w _ (λ y z. result-within _ h)
-operate-within literals Operator.times v w h = two-integers v w _ (λ y z. result-within _ h)
-operate-within literals Operator.over v w h = two-integers v w _ (λ y z. within-bind (quotient y z) _ (quotient-within y z) (λ q. result-within q h))
-operate-within literals Operator.less v w h = two-integers v w _ (λ y z. tt)
-operate-within literals Operator.join v w h = within-if (leb (length (join-bytes literals (h .texts) v w)) 64) _ _ tt (omega arith, omega arith)
-operate-within literals Operator.equal v w h = tt
-operate-within literals Operator.and v w h = tt
-operate-within literals Operator.or v w h = tt
+operate-within cs Operator.plus v w h = two-integers v w _ (λ y z. result-within _ h)
+operate-within cs Operator.minus v w h = two-integers v w _ (λ y z. result-within _ h)
+operate-within cs Operator.times v w h = two-integers v w _ (λ y z. result-within _ h)
+operate-within cs Operator.over v w h = two-integers v w _ (λ y z. within-bind (quotient y z) _ (quotient-within y z) (λ q. result-within q h))
+operate-within cs Operator.less v w h = two-integers v w _ (λ y z. tt)
+operate-within cs Operator.join v w h = within-if (leb (length (join-bytes (cs .literals) (h .texts) v w)) 64) _ _ tt (omega arith, omega arith)
+operate-within cs Operator.equal v w h = tt
+operate-within cs Operator.and v w h = tt
+operate-within cs Operator.or v w h = tt
 
 mutual
   unfolding evaluate
 
-  evaluate-within : (e : Expression Path) (literals : List (List ℕ)) (Σ Π : Value) (h : Heap) → Within (evaluate literals Σ Π e h)
-  evaluate-within (Expression.base b) literals Σ Π h = within-bind (base-value Σ Π (h .frames) b) _ (base-within Σ Π (h .frames) b) (λ v. tt)
-  evaluate-within (Expression.not b) literals Σ Π h = within-bind (base-value Σ Π (h .frames) b) _ (base-within Σ Π (h .frames) b) (λ v. tt)
-  evaluate-within (Expression.operation o a b) literals Σ Π h =
+  evaluate-within : (e : Expression Path) (cs : Constants) (Σ Π : Value) (h : Heap) → Within (evaluate cs Σ Π e h)
+  evaluate-within (Expression.base b) cs Σ Π h = within-bind (base-value Σ Π (h .frames) b) _ (base-within Σ Π (h .frames) b) (λ v. tt)
+  evaluate-within (Expression.not b) cs Σ Π h = within-bind (base-value Σ Π (h .frames) b) _ (base-within Σ Π (h .frames) b) (λ v. tt)
+  evaluate-within (Expression.operation o a b) cs Σ Π h =
       within-bind (base-value Σ Π (h .frames) a) _ (base-within Σ Π (h .frames) a) (λ v.
-      within-bind (base-value Σ Π (h .frames) b) _ (base-within Σ Π (h .frames) b) (λ w. operate-within literals o v w h))
-  evaluate-within (Expression.frame ss) literals Σ Π h = within-bind (fill literals Σ Π ss (M.with-frame h)) _ (fill-within ss literals Σ Π (M.with-frame h)) (λ r. tt)
+      within-bind (base-value Σ Π (h .frames) b) _ (base-within Σ Π (h .frames) b) (λ w. operate-within cs o v w h))
+  evaluate-within (Expression.frame ss) cs Σ Π h = within-bind (fill cs Σ Π ss (M.with-frame h)) _ (fill-within ss cs Σ Π (M.with-frame h)) (λ r. tt)
 
-  fill-within : (ss : Slots Path) (literals : List (List ℕ)) (Σ Π : Value) (h : Heap) → Within (fill literals Σ Π ss h)
-  fill-within Slots.no-slots literals Σ Π h = tt
-  fill-within (Slots.slot n e ss) literals Σ Π h =
-      within-bind (evaluate literals Σ Π e h) _ (evaluate-within e literals Σ Π h) (λ r.
-      within-bind (fill literals Σ Π ss (r .heap)) _ (fill-within ss literals Σ Π (r .heap)) (λ q. tt))
+  fill-within : (ss : Slots Path) (cs : Constants) (Σ Π : Value) (h : Heap) → Within (fill cs Σ Π ss h)
+  fill-within Slots.no-slots cs Σ Π h = tt
+  fill-within (Slots.slot n e ss) cs Σ Π h =
+      within-bind (evaluate cs Σ Π e h) _ (evaluate-within e cs Σ Π h) (λ r.
+      within-bind (fill cs Σ Π ss (r .heap)) _ (fill-within ss cs Σ Π (r .heap)) (λ q. tt))
 
 number-within : (v : Value) → Within (frame-number v)
 unfolding frame-number
@@ -149,7 +150,7 @@ jump-within p Σ Π h a b =
 perform-within : (p : Program) (Σ Π : Value) (h : Heap) (rest : Code Path) (i : Instruction Path) → Within (perform p Σ Π h rest i)
 unfolding perform
 perform-within p Σ Π h rest (Instruction.assign path e) =
-    within-bind (evaluate (p .literals) Σ Π e h) _ (evaluate-within e (p .literals) Σ Π h) (λ r. assign-within Σ Π rest path (r .value) (r .heap))
+    within-bind (evaluate (constants p) Σ Π e h) _ (evaluate-within e (constants p) Σ Π h) (λ r. assign-within Σ Π rest path (r .value) (r .heap))
 perform-within p Σ Π h rest (Instruction.show a) = within-bind (base-value Σ Π (h .frames) a) _ (base-within Σ Π (h .frames) a) (λ v. tt)
 perform-within p Σ Π h rest (Instruction.jump a b) = jump-within p Σ Π h a b
 perform-within p Σ Π h rest (Instruction.ifeq a b c) =

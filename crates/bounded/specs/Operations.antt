@@ -9,7 +9,8 @@ use lib.Dec.{leb}
 use Rattle.framed.specs.declared.Value.{Value}
 use Rattle.framed.specs.Common.{if_then_else_}
 use Rattle.framed.specs.Tokens.{Operator, in-range}
-use Rattle.framed.specs.Values.{join-bytes, truth, equal-values}
+use Rattle.framed.specs.Values.{join-bytes, truth}
+use Rattle.framed.specs.Equality.{Constants, equal-values}
 use Rattle.framed.specs.Machine.{Result, gives, ends, _>>=_, integer-in, quotient}
 
 -- an integer, or the bytes of a new made text
@@ -30,14 +31,14 @@ unfoldable pub flag : Bool → Product
 flag true = number (pos 1)
 flag false = number (pos 0)
 
--- the operator between two values, where these are the program's literals and the made texts
-unfoldable pub operated : List (List ℕ) → List (List ℕ) → Operator → Value → Value → Result Product
-operated literals made Operator.plus v w = do y ← integer-in v; z ← integer-in w; ranged (y +ℤ z)
-operated literals made Operator.minus v w = do y ← integer-in v; z ← integer-in w; ranged (y -ℤ z)
-operated literals made Operator.times v w = do y ← integer-in v; z ← integer-in w; ranged (y *ℤ z)
-operated literals made Operator.over v w = do y ← integer-in v; z ← integer-in w; q ← quotient y z; ranged q
-operated literals made Operator.less v w = do y ← integer-in v; z ← integer-in w; gives (flag (ltZ y z))
-operated literals made Operator.join v w = measured (join-bytes literals made v w)
-operated literals made Operator.equal v w = gives (flag (equal-values literals made v w))
-operated literals made Operator.and v w = gives (flag (truth v && truth w))
-operated literals made Operator.or v w = gives (flag (truth v || truth w))
+-- the operator between two values, where these are the program's constants and the made texts
+unfoldable pub operated : Constants → List (List ℕ) → Operator → Value → Value → Result Product
+operated c made Operator.plus v w = do y ← integer-in v; z ← integer-in w; ranged (y +ℤ z)
+operated c made Operator.minus v w = do y ← integer-in v; z ← integer-in w; ranged (y -ℤ z)
+operated c made Operator.times v w = do y ← integer-in v; z ← integer-in w; ranged (y *ℤ z)
+operated c made Operator.over v w = do y ← integer-in v; z ← integer-in w; q ← quotient y z; ranged q
+operated c made Operator.less v w = do y ← integer-in v; z ← integer-in w; gives (flag (ltZ y z))
+operated c made Operator.join v w = measured (join-bytes (c .literals) made v w)
+operated c made Operator.equal v w = gives (flag (equal-values c made v w))
+operated c made Operator.and v w = gives (flag (truth v && truth w))
+operated c made Operator.or v w = gives (flag (truth v || truth w))

@@ -26,8 +26,6 @@ use Rattle.heap.specs.Words.{self-held, program-held}
 use Rattle.heap.specs.Held.{heap-held, frames-held, texts-held}
 use Rattle.paths.specs.declared.Fetched.{Fetched}
 use Rattle.paths.specs.Paths.{fetched}
-use Rattle.texts.specs.Literals.{literals-held}
-use Rattle.texts.specs.Texts.{Readable}
 use Rattle.trees.specs.Trees.{expression-tree, base-tree, path-list}
 use Rattle.trees.specs.Trees as trees
 use Rattle.trees.specs.Held.{base-held, expression-held, instruction-held, held}
@@ -35,7 +33,8 @@ use Rattle.trees.specs.Held as trees-held
 use Rattle.trees.proofs.Held.{one-level-held, assign-self-held, assign-program-held, show-held}
 use Rattle.operators.specs.Operators.{operator-of, arithmetic-of}
 use Rattle.operands.specs.Operands.{operand-value}
-use Rattle.operands.proofs.Literals.{same-literals}
+use Rattle.program_equality.specs.Agreement.{constants-held}
+use Rattle.program_equality.proofs.Constants.{same-constants}
 use Rattle.operand_checks.specs.OperandChecks.{put-end}
 use Rattle.operand_checks.proofs.Laws.{put-self, put-program}
 use Rattle.places.specs.Places.{expression-measure, slots-measure}
@@ -98,7 +97,7 @@ operate-from p x o a b e = operate-kind (expression-kind p x) (expression-a p x)
 
 -- the end by the values of the two operands
 operated-end : (p l h t : List ℕ) → ℕ → Result Value → Result Value → ℕ
-operated-end p l h t o v w = end-of (_>>=_ v (λ u. _>>=_ w (λ s. operated (literals-held p l) (texts-held h t) (operator-of o) u s)))
+operated-end p l h t o v w = end-of (_>>=_ v (λ u. _>>=_ w (λ s. operated (constants-held p l) (texts-held h t) (operator-of o) u s)))
 
 operation-open : (p l h t : List ℕ) (o a b : ℕ) → operation-end p l h t o a b ≡ operated-end p l h t o (operand-value p h a) (operand-value p h b)
 unfolding operation-end operation-result operand-value heap-held operated-end
@@ -114,7 +113,7 @@ module _ (p l h t : List ℕ) (o a b : ℕ) (r : Fetched) (er : defined (fetched
     unfolding defined _>>=_ end-of operated-end
     operation-right e = rw (operation-open p l h t o a b, ← er, ev, ← es, e)
 
-    pub operation-both : (w : Value) (n : ℕ) → s ≡ Fetched.Found w → n ≡ end-of (operated (literals-held p l) (texts-held h t) (operator-of o) v w) → n ≡ operation-end p l h t o a b
+    pub operation-both : (w : Value) (n : ℕ) → s ≡ Fetched.Found w → n ≡ end-of (operated (constants-held p l) (texts-held h t) (operator-of o) v w) → n ≡ operation-end p l h t o a b
     unfolding defined _>>=_ operated-end
     operation-both w n e en = rw (operation-open p l h t o a b, ← er, ev, ← es, e, en)
 
@@ -168,9 +167,6 @@ module _ (p l h t : List ℕ) (x : ℕ) where
 -- ---- check_expression
 
 module _ (p l h t : List ℕ) (x : ℕ) (a : ChecksExpression p l h t x) where
-  pub expression-readable : Readable p l h t
-  expression-readable = a .memories .readable
-
   -- an entry that is a base
   end-base : (b : Base Path) → base-held p x ≡ b → expression-held p x ≡ Expression.base b → end-of (operand-value p h x) ≡ expression-end p l h t x
   unfolding expression-end check-expression operand-value heap-held
@@ -330,12 +326,12 @@ module _ (p l h t : List ℕ) (i : ℕ) (m : Checks p l h t) (there : i < instru
     pub check-self : InstructionEntry.AssignSelf j n x ≡ instruction-at p i → r ≡ assign-end p l h t (self-held h) j n x → r ≡ checked
     unfolding check assign-end put-end expression-end heap-held
     check-self at er =
-        rw (er, assign-self-held p l (m .program) i there j n x (sym at), same-literals p l, put-self (frames-held h) (self-held h) (program-held h) (path-list p n j))
+        rw (er, assign-self-held p l (m .program) i there j n x (sym at), same-constants p l, put-self (frames-held h) (self-held h) (program-held h) (path-list p n j))
 
     pub check-program : InstructionEntry.AssignProgram j n x ≡ instruction-at p i → r ≡ assign-end p l h t (program-held h) j n x → r ≡ checked
     unfolding check assign-end put-end expression-end heap-held
     check-program at er =
-        rw (er, assign-program-held p l (m .program) i there j n x (sym at), same-literals p l, put-program (frames-held h) (self-held h) (program-held h) (path-list p n j))
+        rw (er, assign-program-held p l (m .program) i there j n x (sym at), same-constants p l, put-program (frames-held h) (self-held h) (program-held h) (path-list p n j))
 
   check-show : (x r : ℕ) → InstructionEntry.Show x ≡ instruction-at p i → r ≡ end-of (operand-value p h x) → r ≡ checked
   unfolding check operand-value heap-held

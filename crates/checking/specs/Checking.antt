@@ -10,9 +10,9 @@ use Rattle.program_form.specs.WellFormed.{WellFormed}
 use Rattle.program_form.specs.Sound.{SlotPlace}
 use Rattle.heap.specs.Words.{self-held, program-held}
 use Rattle.heap.specs.Held.{heap-held}
-use Rattle.texts.specs.Literals.{literals-held}
 use Rattle.texts.specs.Texts.{Readable}
 use Rattle.trees.specs.Held.{base-held, expression-held, slots-held}
+use Rattle.program_equality.specs.Agreement.{constants-held}
 use Rattle.operators.specs.Operators.{operator-of}
 use Rattle.operands.specs.Operands.{operand-value}
 use Rattle.operand_checks.specs.OperandChecks.{put-end}
@@ -43,14 +43,14 @@ module _ (p l h t : List ℕ) where
   -- of the operator of kind o between the expressions a and b
   unfoldable pub operation-end : ℕ → ℕ → ℕ → ℕ
   operation-end o a b =
-      end-of (operation-result (literals-held p l) (self-held h) (program-held h) (heap-held h t) (operator-of o) (base-held p a) (base-held p b))
+      end-of (operation-result (constants-held p l) (self-held h) (program-held h) (heap-held h t) (operator-of o) (base-held p a) (base-held p b))
 
   -- of expression x, and of the slots from the place z on
   unfoldable pub expression-end : ℕ → ℕ
-  expression-end x = check-expression (literals-held p l) (self-held h) (program-held h) (heap-held h t) (expression-held p x)
+  expression-end x = check-expression (constants-held p l) (self-held h) (program-held h) (heap-held h t) (expression-held p x)
 
   unfoldable pub slots-end : ℕ → ℕ
-  slots-end z = check-slots (literals-held p l) (self-held h) (program-held h) (heap-held h t) (slots-held p z)
+  slots-end z = check-slots (constants-held p l) (self-held h) (program-held h) (heap-held h t) (slots-held p z)
 
   -- of `:=` of expression x along the n path names from j on
   unfoldable pub assign-end : Value → ℕ → ℕ → ℕ → ℕ

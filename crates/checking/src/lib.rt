@@ -6,7 +6,6 @@ ghost use mathlib.Core.Path.{_≡_};
 ghost use Rattle.bounded.specs.Check.{check};
 ghost use Rattle.heap.specs.Words.{self-held, program-held as program-value};
 ghost use Rattle.heap.specs.Held.{heap-held};
-ghost use Rattle.texts.specs.Texts.{Readable};
 ghost use Rattle.trees.specs.Held.{instruction-held, program-held};
 ghost use Rattle.checking.specs.Checking.{ChecksExpression, ChecksSlots, ChecksInstruction};
 ghost use Rattle.checking.specs.Checking.{operation-end, base-in, single-end, expression-end, slots-end, assign-end};
@@ -21,7 +20,6 @@ fn check_operation<'a>(
     a: u32,
     b: u32,
 ) -> u32
-    requires { ⌜ Readable (now p) (now l) (now h) (now t) ⌝ }
     ensures { λ r. ⌜ r ≡ operation-end (now (p .entry)) (now (l .entry)) (now (h .entry)) (now (t .entry)) o a b ⌝ }
 {
     let Fetched::Found(v) = operands::operand(p, h, a) else {
@@ -52,7 +50,6 @@ fn check_single<'a>(
     x: u32,
     e: ExpressionEntry,
 ) -> u32
-    requires { ⌜ Readable (now p) (now l) (now h) (now t) ⌝ }
     ensures { λ r. ⌜ r ≡ single-end (now (p .entry)) (now (l .entry)) (now (h .entry)) (now (t .entry)) x e ⌝ }
 {
     let ExpressionEntry::Operate(o, a, b) = e else {

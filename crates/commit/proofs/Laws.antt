@@ -8,7 +8,6 @@ use lib.Dec.{eqb}
 use lib.ListN.{length}
 use types.Run.{OneOf, miss}
 use denote.Enum.Declared.{tagOf}
-use borrow.Author.Tests.{le-leb, lt-leb}
 use Rattle.framed.specs.declared.Value.{Value}
 use Rattle.framed.proofs.Value.{the-type}
 use Rattle.framed.specs.Values.{truth}
@@ -18,7 +17,7 @@ use Rattle.framed.specs.Machine as M
 use Rattle.framed.specs.Machine.{Result, gives, ends, defined, base-value, code-of, right-side}
 use Rattle.tables.specs.declared.InstructionEntry.{InstructionEntry}
 use Rattle.tables.specs.Entries.{instruction-of, instruction-at}
-use Rattle.tables.specs.Fields.{codes, code-first, instructions, instruction-kind, instruction-a, instruction-b, instruction-c, instruction-after}
+use Rattle.tables.specs.Fields.{instructions, instruction-kind, instruction-a, instruction-b, instruction-c, instruction-after}
 use Rattle.program_entries.specs.Form.{InstructionForm}
 use Rattle.trees.specs.Trees.{path-list}
 use Rattle.trees.specs.Held as trees
@@ -40,12 +39,13 @@ use Rattle.word_store.specs.Store.{Memories, word-store}
 use Rattle.word_store.specs.State.{store-held, state-held, with-self, with-program, with-remaining}
 use Rattle.word_store.proofs.Updates.{held-after}
 use Rattle.producing.specs.Producing.{HeaderKept, Writable}
-use Rattle.evaluation.specs.Evaluation.{strings, CanEvaluate, Evaluates}
+use Rattle.evaluation.specs.Evaluation.{program-constants, CanEvaluate, Evaluates}
 use Rattle.evaluation.proofs.Stores.{frames-are}
 use Rattle.evaluation.proofs.Fits.{operand-fits}
-use Rattle.commit.specs.Commit.{put-at, put-along, root-of, set-root, path-of, state-of, Assigns, first-place, code-place, place-to, jump-place, CanJump, Jumps, assignment, position-by, position-after, CanCommit, Commits}
+use Rattle.commit.specs.Commit.{put-at, put-along, root-of, set-root, path-of, state-of, Assigns, code-place, place-to, jump-place, CanJump, Jumps, assignment, position-by, position-after, CanCommit, Commits}
 use Rattle.commit.proofs.Assignment.{assignment-entry, assignment-tree, assignment-there, assignment-place}
-use Rattle.commit.proofs.Places.{code-at, place-small, after-small}
+use Rattle.places.specs.Places.{first-place}
+use Rattle.places.proofs.Codes.{code-at, place-small, after-small}
 use Rattle.commit.proofs.Headers.{kept-state, kept-stays, stays-both, self-stays, program-stays, position-stays, self-size, program-size, position-size, put-store, put-header, put-size}
 
 -- ---- put
@@ -106,7 +106,7 @@ some-names p (suc n) j ne e = let q : _≡_ {A = ℕ} 0 1 = cc in absurd (omega 
 
 module _ (p l h t : List ℕ) (x : ℕ) (v : Value) (h₁ t₁ : List ℕ) (m : Evaluates p l h t x v h₁ t₁) (j n : ℕ) where
   abbrev value : Produced Memories
-  value = evaluate word-store (strings p l) (self-held h) (program-held h) (trees.expression-held p x) (store-held h t)
+  value = evaluate word-store (program-constants p l) (self-held h) (program-held h) (trees.expression-held p x) (store-held h t)
 
   size : length h₁ ≡ 16384
   size = m .leaves .sized .size
@@ -188,16 +188,6 @@ module _ (p l h t : List ℕ) (x : ℕ) (v : Value) (h₁ t₁ : List ℕ) (m : 
     unfolding root-of path-of
     puts-root true = puts-self
     puts-root false = puts-program
-
--- ---- first_place
-
-pub place-none : (p : List ℕ) (k c : ℕ) → c ≡ codes p → c ≤ k → 0 ≡ first-place p k
-unfolding first-place
-place-none p k c ec le = rw (← ec, le-leb c k le)
-
-pub place-there : (p : List ℕ) (k c r : ℕ) → c ≡ codes p → k < c → r ≡ code-first p k → r ≡ first-place p k
-unfolding first-place
-place-there p k c r ec lt er = rw (← ec, lt-leb c k lt) er
 
 -- ---- jump
 

@@ -1,4 +1,3 @@
-pub mod Places
 pub mod Assignment
 pub mod Headers
 pub mod Laws

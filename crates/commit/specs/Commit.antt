@@ -4,20 +4,21 @@ use Prim.Native.Nat.{ℕ, _<_}
 use mathlib.Core.Path.{_≡_}
 use mathlib.Core.Bool.{Bool, true, false}
 use mathlib.Core.List.{List}
-use lib.Dec.{leb}
 use lib.ListN.{length}
 use Rattle.words.specs.Words.{pick}
 use Rattle.framed.specs.declared.Value.{Value}
 use Rattle.framed.specs.Values.{truth}
+use Rattle.framed.specs.Equality.{constants}
 use Rattle.framed.specs.Tree.{Code}
 use Rattle.framed.specs.Paths.{Path, from-self, from-program}
 use Rattle.framed.specs.Machine.{Result, gives, ends, frame-literals, join-signs, right-side}
 use Rattle.tables.specs.declared.InstructionEntry.{InstructionEntry}
 use Rattle.tables.specs.Entries.{instruction-at}
-use Rattle.tables.specs.Fields.{expressions, instructions, codes, code-first, instruction-after}
+use Rattle.tables.specs.Fields.{expressions, instructions, instruction-after}
 use Rattle.program_form.specs.WellFormed.{WellFormed}
 use Rattle.trees.specs.Held as trees
 use Rattle.trees.specs.Held.{remaining}
+use Rattle.places.specs.Places.{first-place}
 use Rattle.heap.specs.Words.{self-held, program-held, position, set-self, set-program}
 use Rattle.heap.specs.Held.{frames-held}
 use Rattle.paths.specs.Paths.{path-held}
@@ -69,15 +70,12 @@ pub record Assigns (p l h t : List ℕ) (path : Path) (x : ℕ) (h′ t′ : Lis
   pub state : (rest : Code Path) →
       with-remaining rest (state-of p h′ t′)
       ≡ commit-assign word-store (state-of p h t) rest path
-      (evaluate word-store (trees.program-held p l .literals) (self-held h) (program-held h) (trees.expression-held p x) (store-held h t))
+      (evaluate word-store (constants (trees.program-held p l)) (self-held h) (program-held h) (trees.expression-held p x) (store-held h t))
   pub header : HeaderStays p h h′
   pub size : length h′ ≡ 16384
   pub text-size : length t′ ≡ 16384
 
 -- ---- Jumps, which the crate `step_jump` makes
-
-unfoldable pub first-place : List ℕ → ℕ → ℕ
-first-place p k = pick (leb (codes p) k) 0 (code-first p k)
 
 -- where a jump goes: the place of the code that the first operand gives, where the second gives a value; else the place stays z
 unfoldable pub code-place : List ℕ → ℕ → Value → ℕ

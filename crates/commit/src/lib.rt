@@ -5,7 +5,7 @@ ghost use mathlib.Core.Path.{_≡_};
 ghost use Rattle.trees.specs.Trees.{path-list};
 ghost use Rattle.allocation.specs.Known.{Full};
 ghost use Rattle.evaluation.specs.Evaluation.{CanEvaluate};
-ghost use Rattle.commit.specs.Commit.{put-along, root-of, set-root, path-of, first-place, Assigns, CanCommit, Commits};
+ghost use Rattle.commit.specs.Commit.{put-along, root-of, set-root, path-of, Assigns, CanCommit, Commits};
 ghost use Rattle.heap.specs.Words.{set-position};
 ghost use Rattle.tables.specs.Fields.{instruction-after};
 
@@ -63,16 +63,6 @@ fn assign(
         return;
     }
     put(p, h, from, j, n, v);
-}
-
-// The place of the first instruction of code k, none where there is no such code.
-pub fn first_place(p: &[u32], k: u32) -> u32
-    ensures { λ r. ⌜ r ≡ first-place (now (p .entry)) k ⌝ }
-{
-    if tables::codes(p) <= k {
-        return 0;
-    }
-    tables::code_first(p, k)
 }
 
 // On to the instruction after instruction i.

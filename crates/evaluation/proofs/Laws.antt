@@ -11,6 +11,7 @@ use borrow.Author.Tests.{eq-eqb, ne-eqb, le-leb, lt-leb}
 use Rattle.framed.specs.declared.Value.{Value}
 use Rattle.framed.specs.Tree.{Expression, Slots}
 use Rattle.framed.specs.Paths.{Path}
+use Rattle.framed.specs.Equality.{Constants}
 use Rattle.framed.specs.Machine.{frame-literals, frame-literals-in, join-signs, join-signs-in}
 use Rattle.tables.specs.declared.ExpressionEntry.{ExpressionEntry}
 use Rattle.tables.proofs.ExpressionEntry.{the-type}
@@ -31,7 +32,7 @@ use Rattle.word_store.specs.Store.{Memories, word-store, claim-frame}
 use Rattle.word_store.specs.State.{store-held}
 use Rattle.producing.specs.Producing.{Leaves, made}
 use Rattle.producing.proofs.Leaves.{leaves-none, leaves-both}
-use Rattle.evaluation.specs.Evaluation.{Claims, strings, CanEvaluate, Flat, Evaluates, CanFill, Fills, FillsBases}
+use Rattle.evaluation.specs.Evaluation.{Claims, program-constants, CanEvaluate, Flat, Evaluates, CanFill, Fills, FillsBases}
 use Rattle.evaluation.proofs.Fits.{fits-frame}
 use Rattle.evaluation.proofs.Stores.{next-is, claim-store, push-store, self-kept, program-kept, claim-in-use, claim-leaves, push-leaves}
 
@@ -138,8 +139,8 @@ module _ (p l h t : List ℕ) (x : ℕ) (can : CanEvaluate p l h t x) (e : Expre
           fits = fits-frame f;
         }
       where
-        make : fill word-store (strings p l) (self-held h) (program-held h) f (slots-held p z) (store-held h₁ t) ≡ store-held h′ t′ →
-            evaluate word-store (strings p l) (self-held h) (program-held h) (Expression.frame (slots-held p z)) (store-held h t) ≡ made (Value.Frame f) h′ t′
+        make : fill word-store (program-constants p l) (self-held h) (program-held h) f (slots-held p z) (store-held h₁ t) ≡ store-held h′ t′ →
+            evaluate word-store (program-constants p l) (self-held h) (program-held h) (Expression.frame (slots-held p z)) (store-held h t) ≡ made (Value.Frame f) h′ t′
         make s =
             let en : word-store .next-frame (store-held h t) ≡ f = next-is h t ∙ sym (c .answer) in
             let ec : word-store .claim-frame (store-held h t) ≡ store-held h₁ t = sym (claim-store h t (can .writable .sized .size)) ∙ rw (c .words) in
@@ -147,11 +148,11 @@ module _ (p l h t : List ℕ) (x : ℕ) (can : CanEvaluate p l h t x) (e : Expre
 
 -- ---- fill
 
-fill-step : (literals : List (List ℕ)) (Σ Π : Value) (f n : ℕ) (e : Expression Path) (ss : Slots Path) (s : Memories) →
-    fill word-store literals Σ Π f (Slots.slot n e ss) s
-    ≡ fill word-store literals Σ Π f ss (word-store .push (evaluate word-store literals Σ Π e s .store) f n (evaluate word-store literals Σ Π e s .value))
+fill-step : (cs : Constants) (Σ Π : Value) (f n : ℕ) (e : Expression Path) (ss : Slots Path) (s : Memories) →
+    fill word-store cs Σ Π f (Slots.slot n e ss) s
+    ≡ fill word-store cs Σ Π f ss (word-store .push (evaluate word-store cs Σ Π e s .store) f n (evaluate word-store cs Σ Π e s .value))
 unfolding fill
-fill-step literals Σ Π f n e ss s = refl
+fill-step cs Σ Π f n e ss s = refl
 
 module _ (p l h t : List ℕ) (f z : ℕ) (can : CanFill p l h t f z) where
   one : OneLevel p l
@@ -227,13 +228,13 @@ module _ (p l h t : List ℕ) (f z : ℕ) (can : CanFill p l h t f z) where
             leaves = record { header = c .header; stay = c .stay; stay-text = c .stay-text; sized = c .sized; text-size = c .text-size; frames = let q = c .frames in omega arith; texts = let q = c .texts in omega arith };
           }
         where
-          go : fill word-store (strings p l) (self-held h) (program-held h) f (slots-held p (slot-after p y)) (store-held h₂ t₁) ≡ store-held h₃ t₃ →
-              fill word-store (strings p l) (self-held h) (program-held h) f (Slots.slot (slot-name p y) (expression-held p y) (slots-held p (slot-after p y))) (store-held h t) ≡ store-held h₃ t₃
+          go : fill word-store (program-constants p l) (self-held h) (program-held h) f (slots-held p (slot-after p y)) (store-held h₂ t₁) ≡ store-held h₃ t₃ →
+              fill word-store (program-constants p l) (self-held h) (program-held h) f (Slots.slot (slot-name p y) (expression-held p y) (slots-held p (slot-after p y))) (store-held h t) ≡ store-held h₃ t₃
           go s =
               let ep : word-store .push (store-held h₁ t₁) f (slot-name p y) v ≡ store-held h₂ t₁ = sym (push-store h₁ t₁ (m .leaves .sized .size) f (slot-name p y) v) ∙ rw (eh, ex) in
-              fill-step (strings p l) (self-held h) (program-held h) f (slot-name p y) (expression-held p y) (slots-held p (slot-after p y)) (store-held h t)
-              ∙ ap (λ (r : Produced Memories). fill word-store (strings p l) (self-held h) (program-held h) f (slots-held p (slot-after p y)) (word-store .push (r .store) f (slot-name p y) (r .value))) (m .produced)
-              ∙ ap (fill word-store (strings p l) (self-held h) (program-held h) f (slots-held p (slot-after p y))) ep
+              fill-step (program-constants p l) (self-held h) (program-held h) f (slot-name p y) (expression-held p y) (slots-held p (slot-after p y)) (store-held h t)
+              ∙ ap (λ (r : Produced Memories). fill word-store (program-constants p l) (self-held h) (program-held h) f (slots-held p (slot-after p y)) (word-store .push (r .store) f (slot-name p y) (r .value))) (m .produced)
+              ∙ ap (fill word-store (program-constants p l) (self-held h) (program-held h) f (slots-held p (slot-after p y))) ep
               ∙ s
 
 -- the loop: what fills the slots from z on then fills all

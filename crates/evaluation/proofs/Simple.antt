@@ -28,9 +28,9 @@ use Rattle.trees.specs.Held.{base-held, expression-held, OneLevel}
 use Rattle.trees.proofs.Held.{one-level-held, not-held, operation-held}
 use Rattle.heap.specs.Words.{self-held, program-held}
 use Rattle.heap.specs.Held.{texts-held, heap-held}
-use Rattle.texts.specs.Literals.{literals-held}
 use Rattle.operands.specs.Operands.{operand-value}
-use Rattle.operands.proofs.Literals.{same-literals}
+use Rattle.program_equality.specs.Agreement.{constants-held}
+use Rattle.program_equality.proofs.Constants.{same-constants}
 use Rattle.operators.specs.Operators.{arithmetic-of, operator-of}
 use Rattle.bounded.specs.Operations.{Product, operated}
 use Rattle.bounded.specs.Check.{operation-result}
@@ -43,7 +43,7 @@ use Rattle.producing.proofs.Leaves.{leaves-none}
 use Rattle.producing.proofs.Operated.{Modest, an-end, operated-modest}
 use Rattle.heap.specs.Closed.{ValueFits}
 use Rattle.evaluation.proofs.Fits.{fits-bit, operand-fits, produce-fits}
-use Rattle.evaluation.specs.Evaluation.{strings, CanEvaluate, Flat, Evaluates}
+use Rattle.evaluation.specs.Evaluation.{program-constants, CanEvaluate, Flat, Evaluates}
 use Rattle.evaluation.proofs.Stores.{heap-is, frames-are}
 
 -- ---- The operators
@@ -69,7 +69,7 @@ module _ (p l h t : List ℕ) (x : ℕ) (w : Writable p l h t) (there : x < expr
   tree = expression-held p x
 
   abbrev evaluated : Expression Path → Produced Memories
-  evaluated e = evaluate word-store (strings p l) (self-held h) (program-held h) e (store-held h t)
+  evaluated e = evaluate word-store (program-constants p l) (self-held h) (program-held h) e (store-held h t)
 
   -- an expression that makes nothing
   still : (e : Expression Path) (v : Value) → tree ≡ e → evaluated e ≡ made v h t → ValueFits v → Evaluates p l h t x v h t
@@ -174,19 +174,19 @@ module _ (p l h t : List ℕ) (x : ℕ) (can : CanEvaluate p l h t x) (k a b : �
     room = record { frames = let q = can .room .frames in omega arith; texts = let q = can .room .texts in let e = signs in omega arith };
   }
 
-  results-agree : operation-result (strings p l) (self-held h) (program-held h) (heap-in word-store (store-held h t)) (operator-of k) (base-held p a) (base-held p b)
+  results-agree : operation-result (program-constants p l) (self-held h) (program-held h) (heap-in word-store (store-held h t)) (operator-of k) (base-held p a) (base-held p b)
       ≡ producing.operation-held p l h t k a b
   unfolding operation-result producing.operation-held operand-value heap-held
-  results-agree = rw (same-literals p l, heap-is h t)
+  results-agree = rw (same-constants p l, heap-is h t)
 
   operation-modest : Modest (is-join (operator-of k)) (producing.operation-held p l h t k a b)
   unfolding producing.operation-held M._>>=_
   operation-modest = go (operand-value p h a) (operand-value p h b)
     where
-      go : (r q : Result Value) → Modest (is-join (operator-of k)) (M._>>=_ r (λ v. M._>>=_ q (λ w. operated (literals-held p l) (texts-held h t) (operator-of k) v w)))
+      go : (r q : Result Value) → Modest (is-join (operator-of k)) (M._>>=_ r (λ v. M._>>=_ q (λ w. operated (constants-held p l) (texts-held h t) (operator-of k) v w)))
       go (ends e) q = an-end
       go (gives v) (ends e) = an-end
-      go (gives v) (gives w) = operated-modest (literals-held p l) (texts-held h t) (operator-of k) v w
+      go (gives v) (gives w) = operated-modest (constants-held p l) (texts-held h t) (operator-of k) v w
 
   pub operation-made : (r : Value) (h′ t′ : List ℕ) → producing.Operates p l h t k a b r h′ t′ → Evaluates p l h t x r h′ t′
   unfolding evaluate

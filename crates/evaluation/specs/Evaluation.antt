@@ -4,6 +4,7 @@ use Prim.Native.Nat.{ℕ, _-_, _<_, _≤_}
 use mathlib.Core.Path.{_≡_}
 use mathlib.Core.List.{List}
 use Rattle.framed.specs.declared.Value.{Value}
+use Rattle.framed.specs.Equality.{Constants, constants}
 use Rattle.framed.specs.Machine.{frame-literals, frame-literals-in, join-signs, join-signs-in}
 use Rattle.tables.specs.declared.ExpressionEntry.{ExpressionEntry}
 use Rattle.tables.specs.Entries.{expression-at}
@@ -24,9 +25,9 @@ pub record Claims (h : List ℕ) (r : ℕ) (h′ : List ℕ) : Type 0 where
   pub answer : r ≡ next-frame h
   pub words : h′ ≡ claim-frame h
 
--- the string literals of the program that p and l hold
-abbrev pub strings : List ℕ → List ℕ → List (List ℕ)
-strings p l = trees.program-held p l .literals
+-- the string and code literals of the program that p and l hold
+abbrev pub program-constants : List ℕ → List ℕ → Constants
+program-constants p l = constants (trees.program-held p l)
 
 -- ---- Expressions
 
@@ -43,7 +44,7 @@ pub record Flat (p l h t : List ℕ) (x : ℕ) : Type 0 where
 
 -- the answer and the memories at exit
 pub record Evaluates (p l h t : List ℕ) (x : ℕ) (r : Value) (h′ t′ : List ℕ) : Type 0 where
-  pub produced : evaluate word-store (strings p l) (self-held h) (program-held h) (trees.expression-held p x) (store-held h t) ≡ made r h′ t′
+  pub produced : evaluate word-store (program-constants p l) (self-held h) (program-held h) (trees.expression-held p x) (store-held h t) ≡ made r h′ t′
   pub leaves : Leaves h t (frame-literals (trees.expression-held p x)) (join-signs (trees.expression-held p x)) h′ t′
   -- as every value of the code
   pub fits : ValueFits r
@@ -58,7 +59,7 @@ pub record CanFill (p l h t : List ℕ) (f z : ℕ) : Type 0 where
   pub room : HasRoom h (frame-literals-in (trees.slots-held p z)) (join-signs-in (trees.slots-held p z))
 
 pub record Fills (p l h t : List ℕ) (f z : ℕ) (h′ t′ : List ℕ) : Type 0 where
-  pub stored : fill word-store (strings p l) (self-held h) (program-held h) f (trees.slots-held p z) (store-held h t) ≡ store-held h′ t′
+  pub stored : fill word-store (program-constants p l) (self-held h) (program-held h) f (trees.slots-held p z) (store-held h t) ≡ store-held h′ t′
   pub leaves : Leaves h t (frame-literals-in (trees.slots-held p z)) (join-signs-in (trees.slots-held p z)) h′ t′
 
 -- ---- Bases among the slots

@@ -12,30 +12,31 @@ use Rattle.framed.specs.Tokens.{Operator}
 use Rattle.framed.specs.Tree.{Base, Expression}
 use Rattle.framed.specs.Paths.{Path}
 use Rattle.framed.specs.Values.{Heap, join-bytes}
+use Rattle.framed.specs.Equality.{Constants}
 use Rattle.framed.specs.Machine.{Result, gives, ends, base-value, new-text, operate, evaluate}
 use Rattle.framed.specs.Judgments.{B⇒}
 use Rattle.framed.specs.Theorems.{JoinTotal}
 use Rattle.framed.proofs.General.{is-false}
 use Rattle.framed.proofs.StepJudged.{ends≢gives, gives-bind, bind-ends, ends-bind, base-sound, base-complete, base-ends, refused, text-made, text-refused}
 
-module _ (literals : List (List ℕ)) (v w : Value) (h : Heap) where
+module _ (K : Constants) (v w : Value) (h : Heap) where
   abbrev bs : List ℕ
-  bs = join-bytes literals (h .texts) v w
+  bs = join-bytes (K .literals) (h .texts) v w
 
-  short : length bs ≤ 64 → operate literals Operator.join v w h
+  short : length bs ≤ 64 → operate K Operator.join v w h
       ≡ gives (record { value = Value.Text (Text.Made (length (h .texts))); heap = record { frames = h .frames; texts = h .texts ++ (bs ∷ []) } })
   unfolding operate
   short le = text-made bs h le
 
-  long : 64 < length bs → operate literals Operator.join v w h ≡ ends 34
+  long : 64 < length bs → operate K Operator.join v w h ≡ ends 34
   unfolding operate
   long lt = text-refused bs h lt
 
-  ended : (e : ℕ) → operate literals Operator.join v w h ≡ ends e → (64 < length bs) × (34 ≡ e)
+  ended : (e : ℕ) → operate K Operator.join v w h ≡ ends e → (64 < length bs) × (34 ≡ e)
   unfolding operate new-text
   ended e q = let c = refused (leb (length bs) 64) _ _ q in (nleb→lt _ _ (is-false (c .0)), c .1)
 
-module _ (literals : List (List ℕ)) (Σ Π : Value) (h : Heap) where
+module _ (K : Constants) (Σ Π : Value) (h : Heap) where
   undefined : (b : Base Path) → ((v : Value) → ¬ B⇒ Σ Π (h .frames) b v) → base-value Σ Π (h .frames) b ≡ ends 31
   undefined b none = of (base-value Σ Π (h .frames) b) refl
     where
@@ -47,21 +48,21 @@ module _ (literals : List (List ℕ)) (Σ Π : Value) (h : Heap) where
   no-value-of b e v d = ends≢gives (sym e ∙ base-complete d)
 
   module _ (a b : Base Path) where
-    ends-31 : evaluate literals Σ Π (Expression.operation Operator.join a b) h ≡ ends 31
+    ends-31 : evaluate K Σ Π (Expression.operation Operator.join a b) h ≡ ends 31
         → ((v : Value) → ¬ B⇒ Σ Π (h .frames) a v) ⊎ ((w : Value) → ¬ B⇒ Σ Π (h .frames) b w)
     unfolding evaluate
     ends-31 e =
         bind-ends (base-value Σ Π (h .frames) a) _ e (λ n. inl (no-value-of a n)) λ v p f.
         bind-ends (base-value Σ Π (h .frames) b) _ f (λ n. inr (no-value-of b n)) λ w q g.
-        absurd (let z = ended literals v w h 31 g .1 in omega arith)
+        absurd (let z = ended K v w h 31 g .1 in omega arith)
 
     is-31 : ((v : Value) → ¬ B⇒ Σ Π (h .frames) a v) ⊎ ((w : Value) → ¬ B⇒ Σ Π (h .frames) b w)
-        → evaluate literals Σ Π (Expression.operation Operator.join a b) h ≡ ends 31
+        → evaluate K Σ Π (Expression.operation Operator.join a b) h ≡ ends 31
     unfolding evaluate
     is-31 (inl none) = ends-bind _ (undefined a none)
     is-31 (inr none) = of (base-value Σ Π (h .frames) a) refl
       where
-        of : (r : Result Value) → base-value Σ Π (h .frames) a ≡ r → evaluate literals Σ Π (Expression.operation Operator.join a b) h ≡ ends 31
+        of : (r : Result Value) → base-value Σ Π (h .frames) a ≡ r → evaluate K Σ Π (Expression.operation Operator.join a b) h ≡ ends 31
         of (gives v) e = gives-bind _ e (ends-bind _ (undefined b none))
         of (ends k) e = ends-bind _ (e ∙ ap ends (base-ends Σ Π (h .frames) a e))
 
@@ -69,7 +70,7 @@ pub join-total : JoinTotal
 join-total =
     record {
       gives-text = short;
-      too-long = λ literals v w h. ((λ q. ended literals v w h 34 q .0), long literals v w h);
-      no-other-end = λ literals v w h e q. sym (ended literals v w h e q .1);
-      no-value = λ literals Σ Π a b h. (ends-31 literals Σ Π h a b, is-31 literals Σ Π h a b);
+      too-long = λ K v w h. ((λ q. ended K v w h 34 q .0), long K v w h);
+      no-other-end = λ K v w h e q. sym (ended K v w h e q .1);
+      no-value = λ K Σ Π a b h. (ends-31 K Σ Π h a b, is-31 K Σ Π h a b);
     }

@@ -15,6 +15,8 @@ pub mod FetchExact
 pub mod LookJudged
 pub mod StepJudged
 pub mod JoinTotal
+pub mod SameCodeExact
+pub mod EqualValues
 pub mod Runs
 pub mod RunJudged
 pub mod ProgramJudged

@@ -21,6 +21,7 @@ use Rattle.framed.specs.Paths.{Path, outside-code, within-slot, resolve-
 use Rattle.framed.specs.Meaning.{base-pieces, expression-pieces, slots-pieces, pieces, outside, misplaced, slot-of, frame-in, code-in, main-start}
 use Rattle.framed.specs.Program.{Program, program-of}
 use Rattle.framed.specs.Values.{Slot, Frame, Heap, new-frame, empty-heap}
+use Rattle.framed.specs.Equality.{Constants, constants}
 use Rattle.framed.specs.Fetch.{in-slots, in-frame, frame-of}
 use Rattle.framed.specs.Machine.{Evaluated, Filled, gives, base-value, evaluate, fill, with-frame, with-frames, start-from, start, State}
 use Rattle.framed.specs.Machine as M
@@ -49,7 +50,7 @@ grows-on {h} a b = record {
   frames-are = b .frames-are ∙ ap (λ (l : List Frame). l ++ b .more) (a .frames-are) ∙ append-assoc (h .frames) (a .more) (b .more);
 }
 
-operation-grows : {literals : List (List ℕ)} {h h′ : Heap} {o : Operator} {v w u : Value} → Operates literals h o v w u h′ → Grows h h′
+operation-grows : {K : Constants} {h h′ : Heap} {o : Operator} {v w u : Value} → Operates K h o v w u h′ → Grows h h′
 operation-grows {h} (o-plus t) = stays h
 operation-grows {h} (o-minus t) = stays h
 operation-grows {h} (o-times t) = stays h
@@ -69,7 +70,7 @@ frames-after h h₀ f more e =
     ∙ set-append-seam (h .frames) (new-frame []) more (new-frame f)
 
 mutual
-  expression-grows : {literals : List (List ℕ)} {Σ Π v : Value} {e : Expression Path} {h h′ : Heap} → E⇒ literals Σ Π e h v h′ → Grows h h′
+  expression-grows : {K : Constants} {Σ Π v : Value} {e : Expression Path} {h h′ : Heap} → E⇒ K Σ Π e h v h′ → Grows h h′
   expression-grows {h} (e-base d) = stays h
   expression-grows (e-op c d o) = operation-grows o
   expression-grows {h} (e-not₁ d) = stays h
@@ -78,7 +79,7 @@ mutual
       let g = slots-grow d in
       record { more = new-frame f ∷ g .more; frames-are = rw (q, p) (frames-after h h₀ f (g .more) (g .frames-are)) }
 
-  slots-grow : {literals : List (List ℕ)} {Σ Π : Value} {ss : Slots Path} {h h′ : Heap} {f : List Slot} → Slots⇒ literals Σ Π ss h f h′ → Grows h h′
+  slots-grow : {K : Constants} {Σ Π : Value} {ss : Slots Path} {h h′ : Heap} {f : List Slot} → Slots⇒ K Σ Π ss h f h′ → Grows h h′
   slots-grow {h} s-none = stays h
   slots-grow (s-slot c p d) = grows-on (expression-grows c) (slots-grow d)
 
@@ -106,18 +107,18 @@ eqb-sym zero (suc n) = eqb·zero-suc n ∙ sym (eqb·suc-zero n)
 eqb-sym (suc m) zero = eqb·suc-zero m ∙ sym (eqb·zero-suc m)
 eqb-sym (suc m) (suc n) = eqb·suc-suc m n ∙ eqb-sym m n ∙ sym (eqb·suc-suc n m)
 
-module _ (literals : List (List ℕ)) (Σ Π : Value) where
+module _ (K : Constants) (Σ Π : Value) where
   -- the slots f were filled from the heap h to the heap h′, and the slot x among them from the expression e
   record Stored (x : ℕ) (e : Expression Path) (h : Heap) (f : List Slot) (h′ : Heap) : Type 0 where
     before : Heap
     after : Heap
     value : Value
     earlier : Grows h before
-    evaluates : E⇒ literals Σ Π e before value after
+    evaluates : E⇒ K Σ Π e before value after
     later : Grows after h′
     there : in-slots f x ≡ some value
 
-  slot-stored : {ss : Slots Path} {h h′ : Heap} {f : List Slot} (x : ℕ) (e : Expression Path) → Slots⇒ literals Σ Π ss h f h′ → slot-of x ss ≡ some e → Stored x e h f h′
+  slot-stored : {ss : Slots Path} {h h′ : Heap} {f : List Slot} (x : ℕ) (e : Expression Path) → Slots⇒ K Σ Π ss h f h′ → slot-of x ss ≡ some e → Stored x e h f h′
   unfolding slot-of in-slots
   slot-stored x e s-none q = absurd (none≢some q)
   slot-stored x e (s-slot {x = n} {e = e₁} {ss = ss} {h = h} {h′ = h₁} {h″ = h₂} {v = v} {s = s} {f = f} c p d) q =
@@ -130,7 +131,7 @@ module _ (literals : List (List ℕ)) (Σ Π : Value) where
         after = h₁;
         value = v;
         earlier = stays h;
-        evaluates = subst (λ (y : Expression Path). E⇒ literals Σ Π y h v h₁) (some-inj q) c;
+        evaluates = subst (λ (y : Expression Path). E⇒ K Σ Π y h v h₁) (some-inj q) c;
         later = slots-grow d;
         there = rw (t, in-slots);
       }
@@ -148,7 +149,7 @@ module _ (literals : List (List ℕ)) (Σ Π : Value) where
 
   -- ---- Fetch along two names
 
-  code-value : {k : ℕ} {is : Code Path} {h h′ : Heap} {v : Value} → E⇒ literals Σ Π (Expression.base (Base.code k is)) h v h′ → v ≡ Value.Code k
+  code-value : {k : ℕ} {is : Code Path} {h h′ : Heap} {v : Value} → E⇒ K Σ Π (Expression.base (Base.code k is)) h v h′ → v ≡ Value.Code k
   code-value (e-base b-code) = refl
 
   -- the frame that a frame expression makes, with a code in the slot x
@@ -158,7 +159,7 @@ module _ (literals : List (List ℕ)) (Σ Π : Value) where
     held : getElem? (h′ .frames) (length (h .frames)) ≡ some frame
     there : in-frame frame x ≡ some (Value.Code k)
 
-  code-made : {ss : Slots Path} {h h′ : Heap} {v : Value} (x k : ℕ) (is : Code Path) → E⇒ literals Σ Π (Expression.frame ss) h v h′ →
+  code-made : {ss : Slots Path} {h h′ : Heap} {v : Value} (x k : ℕ) (is : Code Path) → E⇒ K Σ Π (Expression.frame ss) h v h′ →
       slot-of x ss ≡ some (Expression.base (Base.code k is)) → Made x k h v h′
   unfolding in-frame
   code-made x k is (e-frame {h = h} {h₀ = h₀} {f = f} p d q) r =
@@ -171,7 +172,7 @@ module _ (literals : List (List ℕ)) (Σ Π : Value) where
         there = t .there ∙ ap some (code-value (t .evaluates));
       }
 
-  two-names : {ss ss′ : Slots Path} {h h′ : Heap} {v : Value} (x y k : ℕ) (is : Code Path) → E⇒ literals Σ Π (Expression.frame ss) h v h′ →
+  two-names : {ss ss′ : Slots Path} {h h′ : Heap} {v : Value} (x y k : ℕ) (is : Code Path) → E⇒ K Σ Π (Expression.frame ss) h v h′ →
       slot-of x ss ≡ some (Expression.frame ss′) → slot-of y ss′ ≡ some (Expression.base (Base.code k is)) → Fetch⇒ (h′ .frames) v (x ∷ y ∷ []) (Value.Code k)
   unfolding frame-of in-frame with-frame
   two-names x y k is (e-frame {h = h} {h₀ = h₀} {f = f} p d e) q r =
@@ -240,7 +241,7 @@ fetch-more frames more (fetch₂ {v = v} {f = f} p q d) = fetch₂ (frame-more f
 
 -- ---- Outside code there are only constants and frames of them, which any Σ and Π give alike
 
-module _ (literals : List (List ℕ)) where
+module _ (K : Constants) where
   base-given : (b : Base Written) (ns : List ℕ) → any misplaced (base-pieces (outside-code ns) b) ≡ false →
       (v : Value) × ((Σ Π : Value) (frames : List Frame) → base-value Σ Π frames (resolve-base (outside-code ns) b) ≡ gives v)
   unfolding base-pieces misplaced outside resolve-base any base-value
@@ -253,7 +254,7 @@ module _ (literals : List (List ℕ)) where
     unfolding base-pieces misplaced outside within-slot resolve-base any evaluate M._>>=_
 
     expression-given : (e : Expression Written) (ns ms : List ℕ) → any misplaced (expression-pieces (outside-code ns) (outside-code ms) e) ≡ false → (h : Heap) →
-        (r : Evaluated) × ((Σ Π : Value) → evaluate literals Σ Π (resolve-expression (outside-code ns) (outside-code ms) e) h ≡ gives r)
+        (r : Evaluated) × ((Σ Π : Value) → evaluate K Σ Π (resolve-expression (outside-code ns) (outside-code ms) e) h ≡ gives r)
     expression-given (Expression.base b) ns ms c h =
         let g = base-given b ns c in
         (record { value = g .0; heap = h }, λ Σ Π. rw (g .1 Σ Π (h .frames)))
@@ -269,7 +270,7 @@ module _ (literals : List (List ℕ)) where
         )
 
     slots-given : (ss : Slots Written) (ns : List ℕ) → any misplaced (slots-pieces (outside-code ns) ss) ≡ false → (h : Heap) →
-        (r : Filled) × ((Σ Π : Value) → fill literals Σ Π (resolve-slots (outside-code ns) ss) h ≡ gives r)
+        (r : Filled) × ((Σ Π : Value) → fill K Σ Π (resolve-slots (outside-code ns) ss) h ≡ gives r)
     slots-given Slots.no-slots ns c h = (record { slots = []; heap = h }, λ Σ Π. refl)
     slots-given (Slots.slot n e ss) ns c h =
         let d = none-append misplaced (expression-pieces (outside-code ns) (outside-code (ns ++ (n ∷ []))) e) (slots-pieces (outside-code ns) ss) c in
@@ -281,12 +282,12 @@ module _ (literals : List (List ℕ)) where
 
 module _ (source : List ℕ) (F : ℕ) (p : Program) (fits : SourceFits source F p) where
   -- what its frame is evaluated to, with any values for Σ and Π
-  given : (r : Evaluated) × ((Σ Π : Value) → evaluate (p .literals) Σ Π (Expression.frame (p .slots)) empty-heap ≡ gives r)
+  given : (r : Evaluated) × ((Σ Π : Value) → evaluate (constants p) Σ Π (Expression.frame (p .slots)) empty-heap ≡ gives r)
   unfolding pieces base-pieces resolve-base program-of
   given =
-      let g = expression-given (p .literals) (Expression.frame (fits .tree)) [] [] (fits .in-place) empty-heap in
+      let g = expression-given (constants p) (Expression.frame (fits .tree)) [] [] (fits .in-place) empty-heap in
       let e : p .slots ≡ resolve-slots program-place (fits .tree) = ap (λ (q : Program). q .slots) (sym (fits .program-is)) in
-      (g .0, λ Σ Π. ap (λ (ss : Slots Path). evaluate (p .literals) Σ Π (Expression.frame ss) empty-heap) e ∙ g .1 Σ Π)
+      (g .0, λ Σ Π. ap (λ (ss : Slots Path). evaluate (constants p) Σ Π (Expression.frame ss) empty-heap) e ∙ g .1 Σ Π)
 
   abbrev Π₁ : Value
   Π₁ = given .0 .value
@@ -298,14 +299,14 @@ module _ (source : List ℕ) (F : ℕ) (p : Program) (fits : SourceFits source F
   unfolding start
   start-is = ap (start-from p) (given .1 (Value.Int (pos 0)) (Value.Int (pos 0)))
 
-  evaluates : E⇒ (p .literals) (Value.Int (pos 0)) (Value.Int (pos 0)) (Expression.frame (p .slots)) empty-heap Π₁ h₁
-  evaluates = evaluate-sound (p .literals) _ _ (Expression.frame (p .slots)) empty-heap (given .0) (given .1 _ _)
+  evaluates : E⇒ (constants p) (Value.Int (pos 0)) (Value.Int (pos 0)) (Expression.frame (p .slots)) empty-heap Π₁ h₁
+  evaluates = evaluate-sound (constants p) _ _ (Expression.frame (p .slots)) empty-heap (given .0) (given .1 _ _)
 
   fetched : Fetch⇒ (with-frame h₁ .frames) Π₁ (start-path p) (Value.Code (p .start))
   unfolding start-path with-frame
   fetched =
       let m = main-start-is (p .names) (p .slots) (p .start) (accepted-start source F p fits) in
-      fetch-more (h₁ .frames) (new-frame [] ∷ []) (two-names (p .literals) _ _ _ _ (p .start) (m .is) evaluates (m .main-is) (m .start-is))
+      fetch-more (h₁ .frames) (new-frame [] ∷ []) (two-names (constants p) _ _ _ _ (p .start) (m .is) evaluates (m .main-is) (m .start-is))
 
   -- ---- P-Run is C from the start
 
@@ -319,7 +320,7 @@ module _ (source : List ℕ) (F : ℕ) (p : Program) (fits : SourceFits source F
 
   at-the-start : {Σ Π : Value} {h : Heap} {bs : List ℕ} → P⇒ p Σ Π h bs → From (p .start) Π₁ h₁ Σ Π h bs
   at-the-start (p-run {Σ₀} {Π₀} {Σ} {Π} {Σ′} {Π′} {h} {h′} {k} {bs} d e f c) =
-      let same : record { value = Π; heap = h } ≡ given .0 = gives-inj (sym (evaluate-complete (p .literals) Σ₀ Π₀ d) ∙ given .1 Σ₀ Π₀) in
+      let same : record { value = Π; heap = h } ≡ given .0 = gives-inj (sym (evaluate-complete (constants p) Σ₀ Π₀ d) ∙ given .1 Σ₀ Π₀) in
       let code = one-code k (subst (λ (r : Evaluated). Fetch⇒ (with-frame (r .heap) .frames) (r .value) (start-path p) (Value.Code k)) same f) in
       subst (λ (n : ℕ). From n Π₁ h₁ Σ′ Π′ h′ bs) code
       (subst (λ (r : Evaluated). From k (r .value) (r .heap) Σ′ Π′ h′ bs) same

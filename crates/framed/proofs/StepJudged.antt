@@ -21,6 +21,7 @@ use Rattle.framed.specs.Tree.{Base, Expression, Slots, Instruction, Code
 use Rattle.framed.specs.Paths.{Path, from-self, from-program}
 use Rattle.framed.specs.Program.{Program}
 use Rattle.framed.specs.Values.{Slot, Frame, Heap, with-slots, join-bytes, truth, bit}
+use Rattle.framed.specs.Equality.{Constants, constants}
 use Rattle.framed.specs.Fetch.{in-frame, frame-of, get, fetch}
 use Rattle.framed.specs.Machine.{Result, gives, ends, defined, base-value, Evaluated, evaluated, integer-in, integer-result, quotient, new-text, operate, evaluate, fill, Filled, with-frame, Effect, becomes, set-slot, holds, frame-number, put-slot, put, assign-to, code-of, jump-to, perform, State, Ready, step}
 use Rattle.framed.specs.Machine as M
@@ -160,8 +161,8 @@ pub text-refused : (bs : List ℕ) (h : Heap) → 64 < length bs → new-text bs
 unfolding new-text
 text-refused bs h l = chosen-false _ _ (to-false {b = leb (length bs) 64} (lt→nleb _ _ l))
 
-module _ (literals : List (List ℕ)) (h : Heap) where
-  operate-sound : (o : Operator) (v w : Value) (r : Evaluated) → operate literals o v w h ≡ gives r → Operates literals h o v w (r .value) (r .heap)
+module _ (K : Constants) (h : Heap) where
+  operate-sound : (o : Operator) (v w : Value) (r : Evaluated) → operate K o v w h ≡ gives r → Operates K h o v w (r .value) (r .heap)
   unfolding operate integer-result new-text
   operate-sound Operator.plus v w r e =
       bind-gives (integer-in v) _ e λ y p f.
@@ -190,25 +191,25 @@ module _ (literals : List (List ℕ)) (h : Heap) where
       bind-gives (integer-in w) _ f λ z q g.
       rw (integer-of v p, integer-of w q, ← gives-inj g) o-less
   operate-sound Operator.join v w r e =
-      let c = chosen (leb (length (join-bytes literals (h .texts) v w)) 64) _ _ e in
+      let c = chosen (leb (length (join-bytes (K .literals) (h .texts) v w)) 64) _ _ e in
       rw (← c .1) (o-join (leb→le _ _ (is-true (c .0))))
   operate-sound Operator.equal v w r e = rw (← gives-inj e) o-equal
   operate-sound Operator.and v w r e = rw (← gives-inj e) o-and
   operate-sound Operator.or v w r e = rw (← gives-inj e) o-or
 
-  operate-complete : {o : Operator} {v w u : Value} {h′ : Heap} → Operates literals h o v w u h′ → operate literals o v w h ≡ gives (record { value = u; heap = h′ })
+  operate-complete : {o : Operator} {v w u : Value} {h′ : Heap} → Operates K h o v w u h′ → operate K o v w h ≡ gives (record { value = u; heap = h′ })
   unfolding operate integer-result new-text integer-in M._>>=_
   operate-complete (o-plus t) = chosen-true _ _ t
   operate-complete (o-minus t) = chosen-true _ _ t
   operate-complete (o-times t) = chosen-true _ _ t
   operate-complete (o-over n t) = gives-bind _ (quotient-by _ _ n) (chosen-true _ _ t)
   operate-complete o-less = refl
-  operate-complete (o-join {v} {w} l) = text-made (join-bytes literals (h .texts) v w) h l
+  operate-complete (o-join {v} {w} l) = text-made (join-bytes (K .literals) (h .texts) v w) h l
   operate-complete o-equal = refl
   operate-complete o-and = refl
   operate-complete o-or = refl
 
-  operate-ends : (o : Operator) (v w : Value) {k : ℕ} → operate literals o v w h ≡ ends k → (k ≡ 31) ⊎ OperationMeets literals h o v w k
+  operate-ends : (o : Operator) (v w : Value) {k : ℕ} → operate K o v w h ≡ ends k → (k ≡ 31) ⊎ OperationMeets K h o v w k
   unfolding operate integer-result new-text
   operate-ends Operator.plus v w e =
       bind-ends (integer-in v) _ e (λ n. inl (no-integer v n)) λ y p f.
@@ -239,20 +240,20 @@ module _ (literals : List (List ℕ)) (h : Heap) where
       bind-ends (integer-in w) _ f (λ n. inl (no-integer w n)) λ z q g.
       absurd (gives≢ends g)
   operate-ends Operator.join v w e =
-      let c = refused (leb (length (join-bytes literals (h .texts) v w)) 64) _ _ e in
+      let c = refused (leb (length (join-bytes (K .literals) (h .texts) v w)) 64) _ _ e in
       inr (rw (← c .1) (too-long (nleb→lt _ _ (is-false (c .0)))))
   operate-ends Operator.equal v w e = absurd (gives≢ends e)
   operate-ends Operator.and v w e = absurd (gives≢ends e)
   operate-ends Operator.or v w e = absurd (gives≢ends e)
 
-  operate-meets : {o : Operator} {v w : Value} {k : ℕ} → OperationMeets literals h o v w k → operate literals o v w h ≡ ends k
+  operate-meets : {o : Operator} {v w : Value} {k : ℕ} → OperationMeets K h o v w k → operate K o v w h ≡ ends k
   unfolding operate integer-result new-text integer-in M._>>=_ quotient
   operate-meets divisor-0 = refl
   operate-meets (plus-out t) = chosen-false _ _ t
   operate-meets (minus-out t) = chosen-false _ _ t
   operate-meets (times-out t) = chosen-false _ _ t
   operate-meets (over-out n t) = gives-bind _ (quotient-by _ _ n) (chosen-false _ _ t)
-  operate-meets (too-long {v} {w} l) = text-refused (join-bytes literals (h .texts) v w) h l
+  operate-meets (too-long {v} {w} l) = text-refused (join-bytes (K .literals) (h .texts) v w) h l
 
 -- ---- E
 
@@ -286,9 +287,9 @@ not-other : (h : Heap) (v : Value) → v ≢ zero-value → evaluated (bit (not 
 unfolding bit
 not-other h v n = rw (true-of v n)
 
-module _ (literals : List (List ℕ)) (Σ Π : Value) where
+module _ (K : Constants) (Σ Π : Value) where
   not-sound : (b : Base Path) (h : Heap) (v : Value) (t : Bool) → truth v ≡ t → B⇒ Σ Π (h .frames) b v →
-      E⇒ literals Σ Π (Expression.not b) h (bit (not t)) h
+      E⇒ K Σ Π (Expression.not b) h (bit (not t)) h
   unfolding bit
   not-sound b h v true e d = e-not₂ d (truth-true e)
   not-sound b h v false e d = e-not₁ (subst (λ (w : Value). B⇒ Σ Π (h .frames) b w) (truth-false v e) d)
@@ -296,7 +297,7 @@ module _ (literals : List (List ℕ)) (Σ Π : Value) where
   mutual
     unfolding evaluate
 
-    pub evaluate-sound : (x : Expression Path) (h : Heap) (r : Evaluated) → evaluate literals Σ Π x h ≡ gives r → E⇒ literals Σ Π x h (r .value) (r .heap)
+    pub evaluate-sound : (x : Expression Path) (h : Heap) (r : Evaluated) → evaluate K Σ Π x h ≡ gives r → E⇒ K Σ Π x h (r .value) (r .heap)
     evaluate-sound (Expression.base b) h r e =
         bind-gives (base-value Σ Π (h .frames) b) _ e λ v p q.
         rw (← gives-inj q) (e-base (base-sound Σ Π (h .frames) b p))
@@ -306,38 +307,38 @@ module _ (literals : List (List ℕ)) (Σ Π : Value) where
     evaluate-sound (Expression.operation o a b) h r e =
         bind-gives (base-value Σ Π (h .frames) a) _ e λ v p f.
         bind-gives (base-value Σ Π (h .frames) b) _ f λ w q g.
-        e-op (base-sound Σ Π (h .frames) a p) (base-sound Σ Π (h .frames) b q) (operate-sound literals h o v w r g)
+        e-op (base-sound Σ Π (h .frames) a p) (base-sound Σ Π (h .frames) b q) (operate-sound K h o v w r g)
     evaluate-sound (Expression.frame ss) h r e =
-        bind-gives (fill literals Σ Π ss (with-frame h)) _ e λ x p q.
+        bind-gives (fill K Σ Π ss (with-frame h)) _ e λ x p q.
         rw (← gives-inj q) (e-frame refl (fill-sound ss (with-frame h) x p) refl)
 
-    fill-sound : (ss : Slots Path) (h : Heap) (r : Filled) → fill literals Σ Π ss h ≡ gives r → Slots⇒ literals Σ Π ss h (r .slots) (r .heap)
+    fill-sound : (ss : Slots Path) (h : Heap) (r : Filled) → fill K Σ Π ss h ≡ gives r → Slots⇒ K Σ Π ss h (r .slots) (r .heap)
     fill-sound Slots.no-slots h r e = rw (← gives-inj e) s-none
     fill-sound (Slots.slot n x ss) h r e =
-        bind-gives (evaluate literals Σ Π x h) _ e λ y p f.
-        bind-gives (fill literals Σ Π ss (y .heap)) _ f λ z q g.
+        bind-gives (evaluate K Σ Π x h) _ e λ y p f.
+        bind-gives (fill K Σ Π ss (y .heap)) _ f λ z q g.
         rw (← gives-inj g) (s-slot (evaluate-sound x h y p) refl (fill-sound ss (y .heap) z q))
 
   mutual
     unfolding evaluate
 
     pub evaluate-complete : {x : Expression Path} {h : Heap} {v : Value} {h′ : Heap} →
-        E⇒ literals Σ Π x h v h′ → evaluate literals Σ Π x h ≡ gives (record { value = v; heap = h′ })
+        E⇒ K Σ Π x h v h′ → evaluate K Σ Π x h ≡ gives (record { value = v; heap = h′ })
     evaluate-complete (e-base d) = gives-bind _ (base-complete d) refl
-    evaluate-complete {h = h} (e-op c d o) = gives-bind _ (base-complete c) (gives-bind _ (base-complete d) (operate-complete literals h o))
+    evaluate-complete {h = h} (e-op c d o) = gives-bind _ (base-complete c) (gives-bind _ (base-complete d) (operate-complete K h o))
     evaluate-complete {h = h} (e-not₁ d) = gives-bind _ (base-complete d) (not-zero h)
     evaluate-complete {h = h} (e-not₂ {v = u} d n) = gives-bind _ (base-complete d) (not-other h u n)
     evaluate-complete (e-frame p d q) = gives-bind _ (fill-complete d) (rw (q, p))
 
     fill-complete : {ss : Slots Path} {h : Heap} {f : List Slot} {h′ : Heap} →
-        Slots⇒ literals Σ Π ss h f h′ → fill literals Σ Π ss h ≡ gives (record { slots = f; heap = h′ })
+        Slots⇒ K Σ Π ss h f h′ → fill K Σ Π ss h ≡ gives (record { slots = f; heap = h′ })
     fill-complete s-none = refl
     fill-complete (s-slot c p d) = gives-bind _ (evaluate-complete c) (gives-bind _ (fill-complete d) (rw p))
 
   mutual
     unfolding evaluate
 
-    evaluate-ends : (x : Expression Path) (h : Heap) {k : ℕ} → evaluate literals Σ Π x h ≡ ends k → (k ≡ 31) ⊎ ExpressionMeets literals Σ Π x h k
+    evaluate-ends : (x : Expression Path) (h : Heap) {k : ℕ} → evaluate K Σ Π x h ≡ ends k → (k ≡ 31) ⊎ ExpressionMeets K Σ Π x h k
     evaluate-ends (Expression.base b) h e =
         bind-ends (base-value Σ Π (h .frames) b) _ e (λ n. inl (base-ends Σ Π (h .frames) b n)) λ v p q. absurd (gives≢ends q)
     evaluate-ends (Expression.not b) h e =
@@ -345,26 +346,26 @@ module _ (literals : List (List ℕ)) (Σ Π : Value) where
     evaluate-ends (Expression.operation o a b) h e =
         bind-ends (base-value Σ Π (h .frames) a) _ e (λ n. inl (base-ends Σ Π (h .frames) a n)) λ v p f.
         bind-ends (base-value Σ Π (h .frames) b) _ f (λ n. inl (base-ends Σ Π (h .frames) b n)) λ w q g.
-        ⊎-map (λ i. i) (in-operation (base-sound Σ Π (h .frames) a p) (base-sound Σ Π (h .frames) b q)) (operate-ends literals h o v w g)
+        ⊎-map (λ i. i) (in-operation (base-sound Σ Π (h .frames) a p) (base-sound Σ Π (h .frames) b q)) (operate-ends K h o v w g)
     evaluate-ends (Expression.frame ss) h e =
-        bind-ends (fill literals Σ Π ss (with-frame h)) _ e (λ n. ⊎-map (λ i. i) in-a-frame (fill-ends ss (with-frame h) n)) λ x p q. absurd (gives≢ends q)
+        bind-ends (fill K Σ Π ss (with-frame h)) _ e (λ n. ⊎-map (λ i. i) in-a-frame (fill-ends ss (with-frame h) n)) λ x p q. absurd (gives≢ends q)
 
-    fill-ends : (ss : Slots Path) (h : Heap) {k : ℕ} → fill literals Σ Π ss h ≡ ends k → (k ≡ 31) ⊎ SlotsMeet literals Σ Π ss h k
+    fill-ends : (ss : Slots Path) (h : Heap) {k : ℕ} → fill K Σ Π ss h ≡ ends k → (k ≡ 31) ⊎ SlotsMeet K Σ Π ss h k
     fill-ends Slots.no-slots h e = absurd (gives≢ends e)
     fill-ends (Slots.slot n x ss) h e =
-        bind-ends (evaluate literals Σ Π x h) _ e (λ n. ⊎-map (λ i. i) in-first (evaluate-ends x h n)) λ y p f.
-        bind-ends (fill literals Σ Π ss (y .heap)) _ f
+        bind-ends (evaluate K Σ Π x h) _ e (λ n. ⊎-map (λ i. i) in-first (evaluate-ends x h n)) λ y p f.
+        bind-ends (fill K Σ Π ss (y .heap)) _ f
         (λ n. ⊎-map (λ i. i) (in-later (evaluate-sound x h y p)) (fill-ends ss (y .heap) n))
         λ z q g. absurd (gives≢ends g)
 
   mutual
     unfolding evaluate
 
-    evaluate-meets : {x : Expression Path} {h : Heap} {k : ℕ} → ExpressionMeets literals Σ Π x h k → evaluate literals Σ Π x h ≡ ends k
-    evaluate-meets {h = h} (in-operation c d m) = gives-bind _ (base-complete c) (gives-bind _ (base-complete d) (operate-meets literals h m))
+    evaluate-meets : {x : Expression Path} {h : Heap} {k : ℕ} → ExpressionMeets K Σ Π x h k → evaluate K Σ Π x h ≡ ends k
+    evaluate-meets {h = h} (in-operation c d m) = gives-bind _ (base-complete c) (gives-bind _ (base-complete d) (operate-meets K h m))
     evaluate-meets (in-a-frame m) = ends-bind _ (fill-meets m)
 
-    fill-meets : {ss : Slots Path} {h : Heap} {k : ℕ} → SlotsMeet literals Σ Π ss h k → fill literals Σ Π ss h ≡ ends k
+    fill-meets : {ss : Slots Path} {h : Heap} {k : ℕ} → SlotsMeet K Σ Π ss h k → fill K Σ Π ss h ≡ ends k
     fill-meets (in-first m) = ends-bind _ (evaluate-meets m)
     fill-meets (in-later d m) = gives-bind _ (evaluate-complete d) (ends-bind _ (fill-meets m))
 
@@ -544,7 +545,7 @@ module _ (p : Program) (rest : Code Path) (Σ Π : Value) (h : Heap) where
   unfolding jump-to code-of M._>>=_
   jump-complete c d = gives-bind _ (base-complete c) (gives-bind _ (base-complete d) refl)
 
-  assign-sound : (path : Path) (e : Expression Path) (v : Value) (h′ : Heap) (x : Effect) → E⇒ (p .literals) Σ Π e h v h′ →
+  assign-sound : (path : Path) (e : Expression Path) (v : Value) (h′ : Heap) (x : Effect) → E⇒ (constants p) Σ Π e h v h′ →
       assign-to Σ Π rest path v h′ ≡ gives x → Gives (Instruction.assign path e) x
   unfolding assign-to
   assign-sound (from-self []) e v h′ x d q = rw (← gives-inj q) (i-assign₂ d)
@@ -566,8 +567,8 @@ module _ (p : Program) (rest : Code Path) (Σ Π : Value) (h : Heap) where
   perform-sound : (i : Instruction Path) (x : Effect) → perform p Σ Π h rest i ≡ gives x → Gives i x
   unfolding perform
   perform-sound (Instruction.assign path e) x q =
-      bind-gives (evaluate (p .literals) Σ Π e h) _ q λ r s t.
-      assign-sound path e (r .value) (r .heap) x (evaluate-sound (p .literals) Σ Π e h r s) t
+      bind-gives (evaluate (constants p) Σ Π e h) _ q λ r s t.
+      assign-sound path e (r .value) (r .heap) x (evaluate-sound (constants p) Σ Π e h r s) t
   perform-sound (Instruction.show a) x q =
       bind-gives (base-value Σ Π (h .frames) a) _ q λ v s t.
       rw (← gives-inj t) (i-show (base-sound Σ Π (h .frames) a s))
@@ -590,11 +591,11 @@ module _ (p : Program) (rest : Code Path) (Σ Π : Value) (h : Heap) where
   perform-complete (i-ifeq₁ {b} {c} d e f) = gives-bind _ (base-complete d) (ifeq-zero b c ∙ jump-complete e f)
   perform-complete (i-ifeq₂ {v} d n) = gives-bind _ (base-complete d) (rw (true-of v n))
   perform-complete (i-assign₁ {v} {h′} d q) =
-      gives-bind _ (evaluate-complete (p .literals) Σ Π d) (gives-bind _ (put-complete (h′ .frames) v q) refl)
-  perform-complete (i-assign₂ d) = gives-bind _ (evaluate-complete (p .literals) Σ Π d) refl
+      gives-bind _ (evaluate-complete (constants p) Σ Π d) (gives-bind _ (put-complete (h′ .frames) v q) refl)
+  perform-complete (i-assign₂ d) = gives-bind _ (evaluate-complete (constants p) Σ Π d) refl
   perform-complete (i-assign₃ {v} {h′} d q) =
-      gives-bind _ (evaluate-complete (p .literals) Σ Π d) (gives-bind _ (put-complete (h′ .frames) v q) refl)
-  perform-complete (i-assign₄ d) = gives-bind _ (evaluate-complete (p .literals) Σ Π d) refl
+      gives-bind _ (evaluate-complete (constants p) Σ Π d) (gives-bind _ (put-complete (h′ .frames) v q) refl)
+  perform-complete (i-assign₄ d) = gives-bind _ (evaluate-complete (constants p) Σ Π d) refl
 
   assign-ends : (path : Path) (v : Value) (h′ : Heap) {j : ℕ} → assign-to Σ Π rest path v h′ ≡ ends j →
       (j ≡ 31) ⊎ PutMeets (h′ .frames) v (root Σ Π path) (names path) j
@@ -613,9 +614,9 @@ module _ (p : Program) (rest : Code Path) (Σ Π : Value) (h : Heap) where
   perform-ends : (i : Instruction Path) {j : ℕ} → perform p Σ Π h rest i ≡ ends j → (j ≡ 31) ⊎ Meets p Σ Π h i j
   unfolding perform
   perform-ends (Instruction.assign path e) q =
-      bind-ends (evaluate (p .literals) Σ Π e h) _ q
-      (λ n. ⊎-map (λ i. i) in-expression (evaluate-ends (p .literals) Σ Π e h n))
-      λ r s t. ⊎-map (λ i. i) (in-put (evaluate-sound (p .literals) Σ Π e h r s)) (assign-ends path (r .value) (r .heap) t)
+      bind-ends (evaluate (constants p) Σ Π e h) _ q
+      (λ n. ⊎-map (λ i. i) in-expression (evaluate-ends (constants p) Σ Π e h n))
+      λ r s t. ⊎-map (λ i. i) (in-put (evaluate-sound (constants p) Σ Π e h r s)) (assign-ends path (r .value) (r .heap) t)
   perform-ends (Instruction.show a) q =
       bind-ends (base-value Σ Π (h .frames) a) _ q (λ n. inl (base-ends Σ Π (h .frames) a n)) λ v s t. absurd (gives≢ends t)
   perform-ends (Instruction.jump a b) q = inl (jump-ends a b q)
@@ -632,13 +633,13 @@ module _ (p : Program) (rest : Code Path) (Σ Π : Value) (h : Heap) where
 
   perform-meets : {i : Instruction Path} {j : ℕ} → Meets p Σ Π h i j → perform p Σ Π h rest i ≡ ends j
   unfolding perform
-  perform-meets (in-expression m) = ends-bind _ (evaluate-meets (p .literals) Σ Π m)
-  perform-meets (in-put {path} {v} {h′} d m) = gives-bind _ (evaluate-complete (p .literals) Σ Π d) (assign-meets path v h′ m)
+  perform-meets (in-expression m) = ends-bind _ (evaluate-meets (constants p) Σ Π m)
+  perform-meets (in-put {path} {v} {h′} d m) = gives-bind _ (evaluate-complete (constants p) Σ Π d) (assign-meets path v h′ m)
 
 -- ---- Demand 2, for one instruction
 
 -- 32 to 35, and never 31
-operation-number : {literals : List (List ℕ)} {h : Heap} {o : Operator} {v w : Value} {j : ℕ} → OperationMeets literals h o v w j → 31 < j
+operation-number : {K : Constants} {h : Heap} {o : Operator} {v w : Value} {j : ℕ} → OperationMeets K h o v w j → 31 < j
 unfolding IsLe
 operation-number divisor-0 = le-by-compare 32 32 tt
 operation-number (plus-out t) = le-by-compare 32 33 tt
@@ -648,11 +649,11 @@ operation-number (over-out n t) = le-by-compare 32 33 tt
 operation-number (too-long l) = le-by-compare 32 34 tt
 
 mutual
-  expression-number : {literals : List (List ℕ)} {Σ Π : Value} {x : Expression Path} {h : Heap} {j : ℕ} → ExpressionMeets literals Σ Π x h j → 31 < j
+  expression-number : {K : Constants} {Σ Π : Value} {x : Expression Path} {h : Heap} {j : ℕ} → ExpressionMeets K Σ Π x h j → 31 < j
   expression-number (in-operation c d m) = operation-number m
   expression-number (in-a-frame m) = slots-number m
 
-  slots-number : {literals : List (List ℕ)} {Σ Π : Value} {ss : Slots Path} {h : Heap} {j : ℕ} → SlotsMeet literals Σ Π ss h j → 31 < j
+  slots-number : {K : Constants} {Σ Π : Value} {ss : Slots Path} {h : Heap} {j : ℕ} → SlotsMeet K Σ Π ss h j → 31 < j
   slots-number (in-first m) = expression-number m
   slots-number (in-later d m) = slots-number m
 

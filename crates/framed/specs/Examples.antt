@@ -1,6 +1,6 @@
 -- Document 01, "A printed run and the proved examples": what each example says, from the bytes of a source to the reports.
 -- `ProvedExamples` is the conjunction that the document asks for; `PrintedRun` is the example of `framerun`; `WrittenExamples` are texts of document 02, A1,
--- and `JoinedExamples` runs of its A3. Assumes nothing.
+-- `JoinedExamples` runs of its A3 and `EqualExamples` of its A4. Assumes nothing.
 use mathlib.Core.Path.{_≡_}
 use mathlib.Core.List.{List, [], _∷_, _++_}
 use mathlib.Core.Option.{Option, none, some}
@@ -133,6 +133,33 @@ JoinedExamples =
     × (runs "self.x := \"0123456789abcdef0123456789abcdef0123456789abcdef0123456789abcdef\" # self.none; show self.x;" ≡ ended 31)
     -- a joined text is no frame
     × (runs "self.x := \"fra\" # \"me\"; self.y := self.x == self; show self.y;" ≡ Report.ran (Stopped.end 0) 3 2 (bytes "0\n") ∷ [])
+
+-- ---- Document 02, A4: `==` of codes
+
+-- `==` of the two operands is shown as this line
+abbrev pub compares : String → String → String → Type 0
+compares left right line =
+    reports (bytes "frame: [ Main := frame: [ start := code { self.x := " ++ bytes left ++ bytes " == " ++ bytes right ++ bytes "; show self.x; } ] ]")
+    256 256 (run-call 100 256 ∷ [])
+    ≡ shows line
+
+unfoldable pub EqualExamples : Type 0
+EqualExamples =
+    -- integers by value, strings by bytes
+    compares "code { show 7; }" "code { show 007; }" "1\n"
+    × compares "code { show \"a\"; }" "code { show \"a\"; }" "1\n"
+    × compares "code { show \"a\"; }" "code { show \"b\"; }" "0\n"
+    -- nested codes; how far a path climbs does not matter, where it begins does
+    × compares "code { jump code { show ^.a; } 1; }" "code { jump code { show ^.^.Main.a; } 1; }" "1\n"
+    × compares "code { show self; }" "code { show ^.^; }" "0\n"
+    -- every instruction, and its kind, its operator, the order of its operands and of its slots
+    × compares "code { show 1; }" "code { show 1; show 2; }" "0\n"
+    × compares "code { jump self.a 0; }" "code { ifeq 0 self.a 0; }" "0\n"
+    × compares "code { self := 1 + 2; }" "code { self := 1 - 2; }" "0\n"
+    × compares "code { self := 1 + 2; }" "code { self := 2 + 1; }" "0\n"
+    × compares "code { self := frame: [ a := 1, b := 2 ]; }" "code { self := frame: [ b := 2, a := 1 ]; }" "0\n"
+    -- a value of another kind is no code
+    × compares "code {}" "0" "0\n"
 
 -- to compute with these, a proof unfolds `Examples`
 unfoldable pub Examples : Type 0

@@ -14,6 +14,7 @@ use Rattle.framed.specs.Paths.{Paths}
 use Rattle.framed.specs.Meaning.{Meaning, Lengths, refusal}
 use Rattle.framed.specs.Program.{Program, program, Programs}
 use Rattle.framed.specs.Values.{decimal, Values}
+use Rattle.framed.specs.Equality.{Equality}
 use Rattle.framed.specs.Fetch.{Fetch}
 use Rattle.framed.specs.Reach.{Reach}
 use Rattle.framed.specs.Writer.{Writer}
@@ -51,5 +52,5 @@ framerun source =
 
 -- to compute with `framerun`, a proof unfolds `Framerun`
 unfoldable pub Framerun : Type 0
-unfolding number stop-bytes last-line printed framerun Common Bytes Tokens Symbols Parse Paths Meaning Programs Values Fetch Reach Machine Writer Calls
+unfolding number stop-bytes last-line printed framerun Common Bytes Tokens Symbols Parse Paths Meaning Programs Values Equality Fetch Reach Machine Writer Calls
 Framerun = ℕ

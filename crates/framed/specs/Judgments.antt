@@ -1,6 +1,7 @@
 -- Document 001 (the Framed thesis), section 4: its judgments B, Fetch, E, Put, I, C and that of a program as relations, one constructor for each rule,
 -- with document 01's corrections and limits: Put₂ reads getF, I-Assign₃ hands Put the newer heap, integers are in range, a made text has at most
--- 64 bytes and a frame at most 16 slots; and with document 02's: `#` takes values of any kind, each as `show` writes it (A3).
+-- 64 bytes and a frame at most 16 slots; and with document 02's: `#` takes values of any kind, each as `show` writes it (A3); two codes are equal where
+-- their instruction lists agree (A4).
 -- I, C and that of a program also say what is shown.
 -- `Meets` says which of 32 to 35 is met first in the rule's order. Demand 2: `Machine.perform` gives what `I⇒` says, ends with 32 to 35 where
 -- `Meets` says so, and else with 31. Assumes nothing.
@@ -21,7 +22,8 @@ use Rattle.framed.specs.Symbols.{number-in}
 use Rattle.framed.specs.Tree.{Base, Expression, Slots, Instruction, Code, _then_}
 use Rattle.framed.specs.Paths.{Path, from-self, from-program}
 use Rattle.framed.specs.Program.{Program}
-use Rattle.framed.specs.Values.{Slot, Frame, Heap, new-frame, with-slots, empty-heap, shown, join-bytes, truth, bit, equal-values}
+use Rattle.framed.specs.Values.{Slot, Frame, Heap, new-frame, with-slots, empty-heap, shown, join-bytes, truth, bit}
+use Rattle.framed.specs.Equality.{Constants, constants, equal-values}
 use Rattle.framed.specs.Fetch.{in-frame, frame-of}
 use Rattle.framed.specs.Machine.{set-slot, with-frame, with-frames, State, Effect}
 
@@ -46,41 +48,41 @@ pub data B⇒ (Σ Π : Value) (frames : List Frame) : Base Path → Value → Ty
 
 -- ---- v = v₁ ⊕ v₂, with the heap after it
 
-pub data Operates (literals : List (List ℕ)) (h : Heap) : Operator → Value → Value → Value → Heap → Type 0 where
-  o-plus : {y z : ℤ} → in-range (y +ℤ z) ≡ true → Operates literals h Operator.plus (Value.Int y) (Value.Int z) (Value.Int (y +ℤ z)) h
-  o-minus : {y z : ℤ} → in-range (y -ℤ z) ≡ true → Operates literals h Operator.minus (Value.Int y) (Value.Int z) (Value.Int (y -ℤ z)) h
-  o-times : {y z : ℤ} → in-range (y *ℤ z) ≡ true → Operates literals h Operator.times (Value.Int y) (Value.Int z) (Value.Int (y *ℤ z)) h
+pub data Operates (c : Constants) (h : Heap) : Operator → Value → Value → Value → Heap → Type 0 where
+  o-plus : {y z : ℤ} → in-range (y +ℤ z) ≡ true → Operates c h Operator.plus (Value.Int y) (Value.Int z) (Value.Int (y +ℤ z)) h
+  o-minus : {y z : ℤ} → in-range (y -ℤ z) ≡ true → Operates c h Operator.minus (Value.Int y) (Value.Int z) (Value.Int (y -ℤ z)) h
+  o-times : {y z : ℤ} → in-range (y *ℤ z) ≡ true → Operates c h Operator.times (Value.Int y) (Value.Int z) (Value.Int (y *ℤ z)) h
   o-over : {y z : ℤ} → z ≢ pos 0 → in-range (quotZ y z) ≡ true →
-      Operates literals h Operator.over (Value.Int y) (Value.Int z) (Value.Int (quotZ y z)) h
-  o-less : {y z : ℤ} → Operates literals h Operator.less (Value.Int y) (Value.Int z) (bit (ltZ y z)) h
-  o-join : {v w : Value} → length (join-bytes literals (h .texts) v w) ≤ 64 →
-      Operates literals h Operator.join v w (Value.Text (Text.Made (length (h .texts))))
-      (record { frames = h .frames; texts = h .texts ++ (join-bytes literals (h .texts) v w ∷ []) })
-  o-equal : {v w : Value} → Operates literals h Operator.equal v w (bit (equal-values literals (h .texts) v w)) h
-  o-and : {v w : Value} → Operates literals h Operator.and v w (bit (truth v && truth w)) h
-  o-or : {v w : Value} → Operates literals h Operator.or v w (bit (truth v || truth w)) h
+      Operates c h Operator.over (Value.Int y) (Value.Int z) (Value.Int (quotZ y z)) h
+  o-less : {y z : ℤ} → Operates c h Operator.less (Value.Int y) (Value.Int z) (bit (ltZ y z)) h
+  o-join : {v w : Value} → length (join-bytes (c .literals) (h .texts) v w) ≤ 64 →
+      Operates c h Operator.join v w (Value.Text (Text.Made (length (h .texts))))
+      (record { frames = h .frames; texts = h .texts ++ (join-bytes (c .literals) (h .texts) v w ∷ []) })
+  o-equal : {v w : Value} → Operates c h Operator.equal v w (bit (equal-values c (h .texts) v w)) h
+  o-and : {v w : Value} → Operates c h Operator.and v w (bit (truth v && truth w)) h
+  o-or : {v w : Value} → Operates c h Operator.or v w (bit (truth v || truth w)) h
 
 -- ---- E
 
 mutual
-  pub data E⇒ (literals : List (List ℕ)) (Σ Π : Value) : Expression Path → Heap → Value → Heap → Type 0 where
-    e-base : {b : Base Path} {h : Heap} {v : Value} → B⇒ Σ Π (h .frames) b v → E⇒ literals Σ Π (Expression.base b) h v h
+  pub data E⇒ (c : Constants) (Σ Π : Value) : Expression Path → Heap → Value → Heap → Type 0 where
+    e-base : {b : Base Path} {h : Heap} {v : Value} → B⇒ Σ Π (h .frames) b v → E⇒ c Σ Π (Expression.base b) h v h
     e-op : {o : Operator} {a b : Base Path} {h h′ : Heap} {v w u : Value} →
-        B⇒ Σ Π (h .frames) a v → B⇒ Σ Π (h .frames) b w → Operates literals h o v w u h′ →
-        E⇒ literals Σ Π (Expression.operation o a b) h u h′
-    e-not₁ : {b : Base Path} {h : Heap} → B⇒ Σ Π (h .frames) b zero-value → E⇒ literals Σ Π (Expression.not b) h (Value.Int (pos 1)) h
+        B⇒ Σ Π (h .frames) a v → B⇒ Σ Π (h .frames) b w → Operates c h o v w u h′ →
+        E⇒ c Σ Π (Expression.operation o a b) h u h′
+    e-not₁ : {b : Base Path} {h : Heap} → B⇒ Σ Π (h .frames) b zero-value → E⇒ c Σ Π (Expression.not b) h (Value.Int (pos 1)) h
     e-not₂ : {b : Base Path} {h : Heap} {v : Value} →
-        B⇒ Σ Π (h .frames) b v → v ≢ zero-value → E⇒ literals Σ Π (Expression.not b) h (Value.Int (pos 0)) h
+        B⇒ Σ Π (h .frames) b v → v ≢ zero-value → E⇒ c Σ Π (Expression.not b) h (Value.Int (pos 0)) h
     e-frame : {ss : Slots Path} {h h₀ h₁ : Heap} {x : ℕ} {f : List Slot} →
-        x ≡ length (h .frames) → Slots⇒ literals Σ Π ss (with-frame h) f h₀ → h₁ ≡ with-frames (set (h₀ .frames) x (new-frame f)) h₀ →
-        E⇒ literals Σ Π (Expression.frame ss) h (Value.Frame x) h₁
+        x ≡ length (h .frames) → Slots⇒ c Σ Π ss (with-frame h) f h₀ → h₁ ≡ with-frames (set (h₀ .frames) x (new-frame f)) h₀ →
+        E⇒ c Σ Π (Expression.frame ss) h (Value.Frame x) h₁
 
   -- the slots x₁ := e₁, …, xₙ := eₙ, each from the heap that the one before left
-  pub data Slots⇒ (literals : List (List ℕ)) (Σ Π : Value) : Slots Path → Heap → List Slot → Heap → Type 0 where
-    s-none : {h : Heap} → Slots⇒ literals Σ Π Slots.no-slots h [] h
+  pub data Slots⇒ (c : Constants) (Σ Π : Value) : Slots Path → Heap → List Slot → Heap → Type 0 where
+    s-none : {h : Heap} → Slots⇒ c Σ Π Slots.no-slots h [] h
     s-slot : {x : ℕ} {e : Expression Path} {ss : Slots Path} {h h′ h″ : Heap} {v : Value} {s : Slot} {f : List Slot} →
-        E⇒ literals Σ Π e h v h′ → s ≡ record { name = x; value = v } → Slots⇒ literals Σ Π ss h′ f h″ →
-        Slots⇒ literals Σ Π (Slots.slot x e ss) h (s ∷ f) h″
+        E⇒ c Σ Π e h v h′ → s ≡ record { name = x; value = v } → Slots⇒ c Σ Π ss h′ f h″ →
+        Slots⇒ c Σ Π (Slots.slot x e ss) h (s ∷ f) h″
 
 -- ---- Put: set or add the last slot, of which a frame has at most 16
 
@@ -109,15 +111,15 @@ pub data I⇒ (p : Program) (cs : Code Path) (Σ Π : Value) (h : Heap) : Instru
   i-ifeq₂ : {a b c : Base Path} {v : Value} →
       B⇒ Σ Π (h .frames) a v → v ≢ zero-value → I⇒ p cs Σ Π h (Instruction.ifeq a b c) cs Σ Π h []
   i-assign₁ : {e : Expression Path} {x : ℕ} {xs : List ℕ} {v : Value} {h′ : Heap} {frames : List Frame} →
-      E⇒ (p .literals) Σ Π e h v h′ → Put⇒ (h′ .frames) v Σ (x ∷ xs) frames →
+      E⇒ (constants p) Σ Π e h v h′ → Put⇒ (h′ .frames) v Σ (x ∷ xs) frames →
       I⇒ p cs Σ Π h (Instruction.assign (from-self (x ∷ xs)) e) cs Σ Π (with-frames frames h′) []
   i-assign₂ : {e : Expression Path} {v : Value} {h′ : Heap} →
-      E⇒ (p .literals) Σ Π e h v h′ → I⇒ p cs Σ Π h (Instruction.assign (from-self []) e) cs v Π h′ []
+      E⇒ (constants p) Σ Π e h v h′ → I⇒ p cs Σ Π h (Instruction.assign (from-self []) e) cs v Π h′ []
   i-assign₃ : {e : Expression Path} {x : ℕ} {xs : List ℕ} {v : Value} {h′ : Heap} {frames : List Frame} →
-      E⇒ (p .literals) Σ Π e h v h′ → Put⇒ (h′ .frames) v Π (x ∷ xs) frames →
+      E⇒ (constants p) Σ Π e h v h′ → Put⇒ (h′ .frames) v Π (x ∷ xs) frames →
       I⇒ p cs Σ Π h (Instruction.assign (from-program (x ∷ xs)) e) cs Σ Π (with-frames frames h′) []
   i-assign₄ : {e : Expression Path} {v : Value} {h′ : Heap} →
-      E⇒ (p .literals) Σ Π e h v h′ → I⇒ p cs Σ Π h (Instruction.assign (from-program []) e) cs Σ v h′ []
+      E⇒ (constants p) Σ Π e h v h′ → I⇒ p cs Σ Π h (Instruction.assign (from-program []) e) cs Σ v h′ []
 
 -- ---- C: the list cs gives Σ′, Π′, the heap after it and the bytes that are shown
 
@@ -134,33 +136,33 @@ start-path p = number-in (p .names) (bytes "Main") ∷ number-in (p .names) (byt
 
 pub data P⇒ (p : Program) : Value → Value → Heap → List ℕ → Type 0 where
   p-run : {Σ₀ Π₀ Σ Π Σ′ Π′ : Value} {h h′ : Heap} {k : ℕ} {bs : List ℕ} →
-      E⇒ (p .literals) Σ₀ Π₀ (Expression.frame (p .slots)) empty-heap Π h → Σ ≡ Value.Frame (length (h .frames)) →
+      E⇒ (constants p) Σ₀ Π₀ (Expression.frame (p .slots)) empty-heap Π h → Σ ≡ Value.Frame (length (h .frames)) →
       Fetch⇒ (with-frame h .frames) Π (start-path p) (Value.Code k) →
       C⇒ p (getD (p .codes) k Code.finished) Σ Π (with-frame h) Σ′ Π′ h′ bs → P⇒ p Σ′ Π′ h′ bs
 
 -- ---- 32 to 35, where each is the first that is met
 
-pub data OperationMeets (literals : List (List ℕ)) (h : Heap) : Operator → Value → Value → ℕ → Type 0 where
-  divisor-0 : {y : ℤ} → OperationMeets literals h Operator.over (Value.Int y) zero-value 32
-  plus-out : {y z : ℤ} → in-range (y +ℤ z) ≡ false → OperationMeets literals h Operator.plus (Value.Int y) (Value.Int z) 33
-  minus-out : {y z : ℤ} → in-range (y -ℤ z) ≡ false → OperationMeets literals h Operator.minus (Value.Int y) (Value.Int z) 33
-  times-out : {y z : ℤ} → in-range (y *ℤ z) ≡ false → OperationMeets literals h Operator.times (Value.Int y) (Value.Int z) 33
-  over-out : {y z : ℤ} → z ≢ pos 0 → in-range (quotZ y z) ≡ false → OperationMeets literals h Operator.over (Value.Int y) (Value.Int z) 33
-  too-long : {v w : Value} → 64 < length (join-bytes literals (h .texts) v w) → OperationMeets literals h Operator.join v w 34
+pub data OperationMeets (c : Constants) (h : Heap) : Operator → Value → Value → ℕ → Type 0 where
+  divisor-0 : {y : ℤ} → OperationMeets c h Operator.over (Value.Int y) zero-value 32
+  plus-out : {y z : ℤ} → in-range (y +ℤ z) ≡ false → OperationMeets c h Operator.plus (Value.Int y) (Value.Int z) 33
+  minus-out : {y z : ℤ} → in-range (y -ℤ z) ≡ false → OperationMeets c h Operator.minus (Value.Int y) (Value.Int z) 33
+  times-out : {y z : ℤ} → in-range (y *ℤ z) ≡ false → OperationMeets c h Operator.times (Value.Int y) (Value.Int z) 33
+  over-out : {y z : ℤ} → z ≢ pos 0 → in-range (quotZ y z) ≡ false → OperationMeets c h Operator.over (Value.Int y) (Value.Int z) 33
+  too-long : {v w : Value} → 64 < length (join-bytes (c .literals) (h .texts) v w) → OperationMeets c h Operator.join v w 34
 
 mutual
-  pub data ExpressionMeets (literals : List (List ℕ)) (Σ Π : Value) : Expression Path → Heap → ℕ → Type 0 where
+  pub data ExpressionMeets (c : Constants) (Σ Π : Value) : Expression Path → Heap → ℕ → Type 0 where
     in-operation : {o : Operator} {a b : Base Path} {h : Heap} {v w : Value} {e : ℕ} →
-        B⇒ Σ Π (h .frames) a v → B⇒ Σ Π (h .frames) b w → OperationMeets literals h o v w e →
-        ExpressionMeets literals Σ Π (Expression.operation o a b) h e
+        B⇒ Σ Π (h .frames) a v → B⇒ Σ Π (h .frames) b w → OperationMeets c h o v w e →
+        ExpressionMeets c Σ Π (Expression.operation o a b) h e
     in-a-frame : {ss : Slots Path} {h : Heap} {e : ℕ} →
-        SlotsMeet literals Σ Π ss (with-frame h) e → ExpressionMeets literals Σ Π (Expression.frame ss) h e
+        SlotsMeet c Σ Π ss (with-frame h) e → ExpressionMeets c Σ Π (Expression.frame ss) h e
 
-  pub data SlotsMeet (literals : List (List ℕ)) (Σ Π : Value) : Slots Path → Heap → ℕ → Type 0 where
+  pub data SlotsMeet (c : Constants) (Σ Π : Value) : Slots Path → Heap → ℕ → Type 0 where
     in-first : {x : ℕ} {e : Expression Path} {ss : Slots Path} {h : Heap} {k : ℕ} →
-        ExpressionMeets literals Σ Π e h k → SlotsMeet literals Σ Π (Slots.slot x e ss) h k
+        ExpressionMeets c Σ Π e h k → SlotsMeet c Σ Π (Slots.slot x e ss) h k
     in-later : {x : ℕ} {e : Expression Path} {ss : Slots Path} {h h′ : Heap} {v : Value} {k : ℕ} →
-        E⇒ literals Σ Π e h v h′ → SlotsMeet literals Σ Π ss h′ k → SlotsMeet literals Σ Π (Slots.slot x e ss) h k
+        E⇒ c Σ Π e h v h′ → SlotsMeet c Σ Π ss h′ k → SlotsMeet c Σ Π (Slots.slot x e ss) h k
 
 -- Put would add a 17th slot
 pub data PutMeets (frames : List Frame) (w : Value) : Value → List ℕ → ℕ → Type 0 where
@@ -180,9 +182,9 @@ names (from-program ns) = ns
 
 pub data Meets (p : Program) (Σ Π : Value) (h : Heap) : Instruction Path → ℕ → Type 0 where
   in-expression : {path : Path} {e : Expression Path} {k : ℕ} →
-      ExpressionMeets (p .literals) Σ Π e h k → Meets p Σ Π h (Instruction.assign path e) k
+      ExpressionMeets (constants p) Σ Π e h k → Meets p Σ Π h (Instruction.assign path e) k
   in-put : {path : Path} {e : Expression Path} {v : Value} {h′ : Heap} {k : ℕ} →
-      E⇒ (p .literals) Σ Π e h v h′ → PutMeets (h′ .frames) v (root Σ Π path) (names path) k →
+      E⇒ (constants p) Σ Π e h v h′ → PutMeets (h′ .frames) v (root Σ Π path) (names path) k →
       Meets p Σ Π h (Instruction.assign path e) k
 
 -- ---- In a state

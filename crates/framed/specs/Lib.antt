@@ -13,6 +13,7 @@ pub mod Refusals
 pub mod Program
 pub mod Accepted
 pub mod Values
+pub mod Equality
 pub mod Fetch
 pub mod Reach
 pub mod Writer

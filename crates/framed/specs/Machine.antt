@@ -1,5 +1,5 @@
 -- Document 01, "The endless machine" (here: the unbounded machine): its state, Put, the value of a base and of an expression,
--- room (here: reserve), and one step; `#` is document 02's, A3. Assumes nothing.
+-- room (here: reserve), and one step; `#` is document 02's, A3, and `==` its A4. Assumes nothing.
 use mathlib.Core.Path.{_≡_}
 use mathlib.Core.Bool.{Bool, true, false, not, _||_, _&&_}
 use mathlib.Core.List.{List, [], _∷_, _++_}
@@ -16,7 +16,8 @@ use Rattle.framed.specs.Tokens.{Operator, in-range}
 use Rattle.framed.specs.Tree.{Base, Expression, Slots, Instruction, Code, _then_}
 use Rattle.framed.specs.Paths.{Path, from-self, from-program}
 use Rattle.framed.specs.Program.{Program}
-use Rattle.framed.specs.Values.{Slot, Frame, Heap, new-frame, with-slots, empty-heap, shown, join-bytes, truth, bit, equal-values}
+use Rattle.framed.specs.Values.{Slot, Frame, Heap, new-frame, with-slots, empty-heap, shown, join-bytes, truth, bit}
+use Rattle.framed.specs.Equality.{Constants, constants, equal-values}
 use Rattle.framed.specs.Fetch.{in-frame, get, fetch}
 use Rattle.framed.specs.Reach.{roots, reached-frames, texts-from}
 
@@ -107,16 +108,16 @@ new-text bs h =
     then evaluated (Value.Text (Text.Made (length (h .texts)))) (record { frames = h .frames; texts = h .texts ++ (bs ∷ []) })
     else ends 34
 
-unfoldable pub operate : List (List ℕ) → Operator → Value → Value → Heap → Result Evaluated
-operate literals Operator.plus v w h = do y ← integer-in v; z ← integer-in w; integer-result (y +ℤ z) h
-operate literals Operator.minus v w h = do y ← integer-in v; z ← integer-in w; integer-result (y -ℤ z) h
-operate literals Operator.times v w h = do y ← integer-in v; z ← integer-in w; integer-result (y *ℤ z) h
-operate literals Operator.over v w h = do y ← integer-in v; z ← integer-in w; q ← quotient y z; integer-result q h
-operate literals Operator.less v w h = do y ← integer-in v; z ← integer-in w; evaluated (bit (ltZ y z)) h
-operate literals Operator.join v w h = new-text (join-bytes literals (h .texts) v w) h
-operate literals Operator.equal v w h = evaluated (bit (equal-values literals (h .texts) v w)) h
-operate literals Operator.and v w h = evaluated (bit (truth v && truth w)) h
-operate literals Operator.or v w h = evaluated (bit (truth v || truth w)) h
+unfoldable pub operate : Constants → Operator → Value → Value → Heap → Result Evaluated
+operate c Operator.plus v w h = do y ← integer-in v; z ← integer-in w; integer-result (y +ℤ z) h
+operate c Operator.minus v w h = do y ← integer-in v; z ← integer-in w; integer-result (y -ℤ z) h
+operate c Operator.times v w h = do y ← integer-in v; z ← integer-in w; integer-result (y *ℤ z) h
+operate c Operator.over v w h = do y ← integer-in v; z ← integer-in w; q ← quotient y z; integer-result q h
+operate c Operator.less v w h = do y ← integer-in v; z ← integer-in w; evaluated (bit (ltZ y z)) h
+operate c Operator.join v w h = new-text (join-bytes (c .literals) (h .texts) v w) h
+operate c Operator.equal v w h = evaluated (bit (equal-values c (h .texts) v w)) h
+operate c Operator.and v w h = evaluated (bit (truth v && truth w)) h
+operate c Operator.or v w h = evaluated (bit (truth v || truth w)) h
 
 -- the slots of a frame expression, with the heap after them
 pub record Filled : Type 0 where
@@ -133,26 +134,26 @@ with-frames frames h = record { frames = frames; texts = h .texts }
 
 -- The value of an expression, operands left to right. A frame: take a new frame number, evaluate the slots in order, then store them
 unfoldable mutual
-  pub evaluate : List (List ℕ) → Value → Value → Expression Path → Heap → Result Evaluated
-  evaluate literals Σ Π (Expression.base b) h = do
+  pub evaluate : Constants → Value → Value → Expression Path → Heap → Result Evaluated
+  evaluate c Σ Π (Expression.base b) h = do
     v ← base-value Σ Π (h .frames) b
     evaluated v h
-  evaluate literals Σ Π (Expression.not b) h = do
+  evaluate c Σ Π (Expression.not b) h = do
     v ← base-value Σ Π (h .frames) b
     evaluated (bit (not (truth v))) h
-  evaluate literals Σ Π (Expression.operation o a b) h = do
+  evaluate c Σ Π (Expression.operation o a b) h = do
     v ← base-value Σ Π (h .frames) a
     w ← base-value Σ Π (h .frames) b
-    operate literals o v w h
-  evaluate literals Σ Π (Expression.frame ss) h = do
-    r ← fill literals Σ Π ss (with-frame h)
+    operate c o v w h
+  evaluate c Σ Π (Expression.frame ss) h = do
+    r ← fill c Σ Π ss (with-frame h)
     evaluated (Value.Frame (length (h .frames))) (with-frames (set (r .heap .frames) (length (h .frames)) (new-frame (r .slots))) (r .heap))
 
-  pub fill : List (List ℕ) → Value → Value → Slots Path → Heap → Result Filled
-  fill literals Σ Π Slots.no-slots h = gives (record { slots = []; heap = h })
-  fill literals Σ Π (Slots.slot n e ss) h = do
-    r ← evaluate literals Σ Π e h
-    q ← fill literals Σ Π ss (r .heap)
+  pub fill : Constants → Value → Value → Slots Path → Heap → Result Filled
+  fill c Σ Π Slots.no-slots h = gives (record { slots = []; heap = h })
+  fill c Σ Π (Slots.slot n e ss) h = do
+    r ← evaluate c Σ Π e h
+    q ← fill c Σ Π ss (r .heap)
     gives (record { slots = record { name = n; value = r .value } ∷ q .slots; heap = q .heap })
 
 -- ---- The rule of an instruction
@@ -196,7 +197,7 @@ jump-to p Σ Π h a b = do
 
 unfoldable pub perform : Program → Value → Value → Heap → Code Path → Instruction Path → Result Effect
 perform p Σ Π h rest (Instruction.assign path e) = do
-  r ← evaluate (p .literals) Σ Π e h
+  r ← evaluate (constants p) Σ Π e h
   assign-to Σ Π rest path (r .value) (r .heap)
 perform p Σ Π h rest (Instruction.show a) = do
   v ← base-value Σ Π (h .frames) a
@@ -319,7 +320,7 @@ start-from p (gives r) =
     }
 
 unfoldable pub start : Program → State
-start p = start-from p (evaluate (p .literals) (Value.Int (pos 0)) (Value.Int (pos 0)) (Expression.frame (p .slots)) empty-heap)
+start p = start-from p (evaluate (constants p) (Value.Int (pos 0)) (Value.Int (pos 0)) (Expression.frame (p .slots)) empty-heap)
 
 unfoldable pub Machine : Type 0
 unfolding _>>=_ defined set-slot holds frame-number put-slot put base-value integer-in integer-result quotient new-text operate with-frame with-frames evaluate assign-to code-of jump-to perform frame-literals is-join join-signs right-side reserve-for reserve step after-step marked start-from start

@@ -1,11 +1,11 @@
 -- What is proved about these definitions. Each type is a theorem's statement; its proof has the same name in proofs/. Assumes nothing.
 use mathlib.Core.Path.{_≡_}
-use mathlib.Core.Logic.{_↔_, _⊎_}
+use mathlib.Core.Logic.{_↔_, _⊎_, _≢_}
 use mathlib.Core.Bool.{true, false}
 use mathlib.Core.List.{List, [], _∷_, _++_}
 use mathlib.Core.Option.{none, some}
 use Prim.Native.Nat.{ℕ, suc, _+_, _-_, _≤_, _<_}
-use lib.ListN.{length, take}
+use lib.ListN.{length, take, getD}
 use Rattle.framed.specs.declared.Value.{Value}
 use Rattle.framed.specs.declared.Text.{Text}
 use Rattle.framed.specs.Common.{member, has-twice, _∈_, Twice}
@@ -21,6 +21,7 @@ use Rattle.framed.specs.Occurrences.{Occurs}
 use Rattle.framed.specs.Refusals.{Holds}
 use Rattle.framed.specs.Program.{Program, program}
 use Rattle.framed.specs.Values.{Frame, Heap, join-bytes}
+use Rattle.framed.specs.Equality.{Constants, constants, same-code, plain-code, equal-values}
 use Rattle.framed.specs.Fetch.{fetch}
 use Rattle.framed.specs.Writer.{common-prefix, written-path}
 use Rattle.framed.specs.Machine.{State, Effect, gives, ends, operate, evaluate, Ready, right-side, frame-literals, join-signs, step, start}
@@ -171,16 +172,38 @@ pub record PathWritten : Type 0 where
 
 pub record JoinTotal : Type 0 where
   -- `#` of two values gives a new made text of the joined bytes, where they are at most 64
-  pub gives-text : (literals : List (List ℕ)) (v w : Value) (h : Heap) →
-      let bs = join-bytes literals (h .texts) v w in
+  pub gives-text : (c : Constants) (v w : Value) (h : Heap) →
+      let bs = join-bytes (c .literals) (h .texts) v w in
       length bs ≤ 64 →
-      operate literals Operator.join v w h
+      operate c Operator.join v w h
       ≡ gives (record { value = Value.Text (Text.Made (length (h .texts))); heap = record { frames = h .frames; texts = h .texts ++ (bs ∷ []) } })
   -- it ends 34 exactly when they are more, and has no other end
-  pub too-long : (literals : List (List ℕ)) (v w : Value) (h : Heap) →
-      (operate literals Operator.join v w h ≡ ends 34) ↔ (64 < length (join-bytes literals (h .texts) v w))
-  pub no-other-end : (literals : List (List ℕ)) (v w : Value) (h : Heap) (e : ℕ) → operate literals Operator.join v w h ≡ ends e → e ≡ 34
+  pub too-long : (c : Constants) (v w : Value) (h : Heap) →
+      (operate c Operator.join v w h ≡ ends 34) ↔ (64 < length (join-bytes (c .literals) (h .texts) v w))
+  pub no-other-end : (c : Constants) (v w : Value) (h : Heap) (e : ℕ) → operate c Operator.join v w h ≡ ends e → e ≡ 34
   -- the expression ends 31 exactly when an operand has no value, however long the other is
-  pub no-value : (literals : List (List ℕ)) (Σ Π : Value) (a b : Base Path) (h : Heap) →
-      (evaluate literals Σ Π (Expression.operation Operator.join a b) h ≡ ends 31)
+  pub no-value : (c : Constants) (Σ Π : Value) (a b : Base Path) (h : Heap) →
+      (evaluate c Σ Π (Expression.operation Operator.join a b) h ≡ ends 31)
       ↔ (((v : Value) → ¬ B⇒ Σ Π (h .frames) a v) ⊎ ((w : Value) → ¬ B⇒ Σ Π (h .frames) b w))
+
+-- ---- Document 02, A4
+
+-- two codes agree exactly when they are the same tree, with the numbers of codes left out and the bytes of literals in place of their numbers
+abbrev pub SameCodeExact : Type 0
+SameCodeExact = (literals : List (List ℕ)) (is js : Code Path) → (same-code literals is js ≡ true) ↔ (plain-code literals is ≡ plain-code literals js)
+
+-- `==` is an equivalence on all values
+pub record EqualIsEquivalence : Type 0 where
+  pub reflexive : (c : Constants) (made : List (List ℕ)) (v : Value) → equal-values c made v v ≡ true
+  pub symmetric : (c : Constants) (made : List (List ℕ)) (v w : Value) → equal-values c made v w ≡ true → equal-values c made w v ≡ true
+  pub transitive : (c : Constants) (made : List (List ℕ)) (u v w : Value) →
+      equal-values c made u v ≡ true → equal-values c made v w ≡ true → equal-values c made u w ≡ true
+
+pub record EqualCodes : Type 0 where
+  -- `==` of two codes is 1 exactly when their instruction lists agree, whatever texts are made
+  pub codes : (p : Program) (made : List (List ℕ)) (k l : ℕ) →
+      (equal-values (constants p) made (Value.Code k) (Value.Code l) ≡ true)
+      ↔ (plain-code (p .literals) (getD (p .codes) k Code.finished) ≡ plain-code (p .literals) (getD (p .codes) l Code.finished))
+  -- of a code and a value of any other kind it is 0
+  pub other-kinds : (p : Program) (made : List (List ℕ)) (k : ℕ) (w : Value) → ((l : ℕ) → w ≢ Value.Code l) →
+      equal-values (constants p) made (Value.Code k) w ≡ false

@@ -1,5 +1,5 @@
--- Document 01, "The endless machine" (here: the unbounded machine): values, frames, texts and the heap; what each value is when it is shown, compared or tested,
--- and with document 02's A3 when it is joined. Values are those of the crate's enums `Value` and `Text`. Assumes nothing.
+-- Document 01, "The endless machine" (here: the unbounded machine): values, frames, texts and the heap; what each value is when it is shown or tested,
+-- and with document 02's A3 when it is joined. `Equality` compares them. Values are those of the crate's enums `Value` and `Text`. Assumes nothing.
 use mathlib.Core.Bool.{Bool, true, false}
 use mathlib.Core.List.{List, [], _∷_, _++_}
 use Prim.Native.Nat.{ℕ, zero, suc, _+_, _/_, _%_}
@@ -8,7 +8,7 @@ use lib.ListN.{getD}
 use lib.Dec.{eqb, ltb}
 use Rattle.framed.specs.declared.Value.{Value}
 use Rattle.framed.specs.declared.Text.{Text}
-use Rattle.framed.specs.Common.{bytes, same}
+use Rattle.framed.specs.Common.{bytes}
 
 -- A slot has the number of its name, and a value; a frame has its slots, in the order in which they were added
 pub record Slot : Type 0 where
@@ -79,22 +79,6 @@ same-integer (pos m) (negsuc n) = false
 same-integer (negsuc m) (pos n) = false
 same-integer (negsuc m) (negsuc n) = eqb m n
 
--- `==`: equal integers, equal bytes of texts, the same code literal, or the same frame
-unfoldable pub equal-values : List (List ℕ) → List (List ℕ) → Value → Value → Bool
-equal-values literals made (Value.Int y) w =
-    elim w [ Value.Int z ↦ same-integer y z | Value.Text u ↦ false | Value.Code l ↦ false | Value.Frame m ↦ false ]
-equal-values literals made (Value.Text t) w =
-    elim w [
-      | Value.Int z ↦ false
-      | Value.Text u ↦ same (text-bytes literals made t) (text-bytes literals made u)
-      | Value.Code l ↦ false
-      | Value.Frame m ↦ false
-    ]
-equal-values literals made (Value.Code k) w =
-    elim w [ Value.Int z ↦ false | Value.Text u ↦ false | Value.Code l ↦ eqb k l | Value.Frame m ↦ false ]
-equal-values literals made (Value.Frame n) w =
-    elim w [ Value.Int z ↦ false | Value.Text u ↦ false | Value.Code l ↦ false | Value.Frame m ↦ eqb n m ]
-
 unfoldable pub Values : Type 0
-unfolding empty-heap text-bytes digits-within decimal shown join-bytes truth bit same-integer equal-values
+unfolding empty-heap text-bytes digits-within decimal shown join-bytes truth bit same-integer
 Values = ℕ

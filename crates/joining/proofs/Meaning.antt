@@ -9,6 +9,7 @@ use borrow.Author.Tests.{lt-ltb, le-ltb, le-leb, lt-leb}
 use Rattle.framed.specs.declared.Value.{Value}
 use Rattle.framed.specs.Tokens.{Operator}
 use Rattle.framed.specs.Values.{join-bytes}
+use Rattle.framed.specs.Equality.{Constants}
 use Rattle.bounded.specs.Operations.{measured, operated}
 use Rattle.heap.specs.Held.{texts-held}
 use Rattle.texts.specs.Literals.{literals-held}
@@ -23,10 +24,10 @@ module _ (p l h t : List ℕ) (v w : Value) where
   abbrev size : ℕ
   size = shown-size p h v + shown-size p h w
 
-  -- `#` by the words
-  pub join-means : operated (literals-held p l) (texts-held h t) Operator.join v w ≡ join-result (join-end p h v w) bytes
+  -- `#` by the words, whatever the codes are
+  pub join-means : (c : Constants) → c .literals ≡ literals-held p l → operated c (texts-held h t) Operator.join v w ≡ join-result (join-end p h v w) bytes
   unfolding operated measured join-end join-result
-  join-means = go (decLt 64 size)
+  join-means c e = rw e (go (decLt 64 size))
     where
       go : Dec (64 < size) → measured bytes ≡ join-result (join-end p h v w) bytes
       go (yes lt) = let e = join-length p l h t v w in rw (lt-ltb 64 size lt, lt-leb (length bytes) 64 (omega arith))

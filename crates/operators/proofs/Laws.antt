@@ -12,21 +12,23 @@ use denote.Enum.Declared.{tagOf}
 use borrow.Author.Tests.{eq-eqb, ne-eqb, lt-ltb, le-ltb}
 use Rattle.words.specs.Words.{pick}
 use Rattle.framed.proofs.Value.{the-type}
-use Rattle.operators.proofs.Operated.{the-type as operated-type}
+use Rattle.arith.proofs.Arithmetic.{the-type as arithmetic-type}
 use Rattle.framed.specs.declared.Value.{Value}
 use Rattle.framed.specs.Tokens.{Operator}
 use Rattle.framed.specs.Machine.{_>>=_, gives, ends, integer-in}
 use Rattle.bounded.specs.Operations.{flag, ranged, operated}
-use Rattle.framed.specs.Values.{join-bytes, truth, equal-values}
+use Rattle.framed.specs.Values.{join-bytes, truth}
+use Rattle.framed.specs.Equality.{Constants, equal-values}
 use Rattle.bounded.specs.Check.{end-of}
 use Rattle.heap.specs.Held.{texts-held}
 use Rattle.texts.specs.Literals.{literals-held}
+use Rattle.program_equality.specs.Agreement.{constants-held}
 use Rattle.joining.specs.Joining.{join-end, join-result}
 use Rattle.joining.proofs.Meaning.{join-means}
 use Rattle.arith.specs.declared.Arithmetic.{Arithmetic}
 use Rattle.arith.specs.Arith.{outcome, divided}
 use Rattle.operators.specs.declared.Operated.{Operated}
-use Rattle.operators.specs.Operators.{operator-of, operation, arithmetic-of, arithmetic-operated, integer-operated, compared, of-arithmetic, of-join, of-flag, Operates}
+use Rattle.operators.specs.Operators.{operator-of, operation, arithmetic-of, no-constants, arithmetic-operated, integer-operated, compared, of-arithmetic, of-join, of-flag, Operates}
 
 -- ---- integers
 
@@ -74,22 +76,22 @@ module _ (k : ℕ) (v w : Value) where
   unfolding arithmetic-operated operated integer-in _>>=_
   left-else o = go v o
     where
-      go : (u : Value) → OneOf (1 ∷ 2 ∷ 3 ∷ []) (tagOf the-type u) → outcome (Arithmetic.Ended 31) ≡ operated [] [] (arithmetic-of k) u w
+      go : (u : Value) → OneOf (1 ∷ 2 ∷ 3 ∷ []) (tagOf the-type u) → outcome (Arithmetic.Ended 31) ≡ operated no-constants [] (arithmetic-of k) u w
       go (Value.Int y) q = absurd (miss (1 ∷ 2 ∷ 3 ∷ []) 0 tt q)
-      go (Value.Text x) q = arithmetic-case (λ o. ends 31 ≡ operated [] [] o (Value.Text x) w) refl refl refl refl refl k
-      go (Value.Code n) q = arithmetic-case (λ o. ends 31 ≡ operated [] [] o (Value.Code n) w) refl refl refl refl refl k
-      go (Value.Frame n) q = arithmetic-case (λ o. ends 31 ≡ operated [] [] o (Value.Frame n) w) refl refl refl refl refl k
+      go (Value.Text x) q = arithmetic-case (λ o. ends 31 ≡ operated no-constants [] o (Value.Text x) w) refl refl refl refl refl k
+      go (Value.Code n) q = arithmetic-case (λ o. ends 31 ≡ operated no-constants [] o (Value.Code n) w) refl refl refl refl refl k
+      go (Value.Frame n) q = arithmetic-case (λ o. ends 31 ≡ operated no-constants [] o (Value.Frame n) w) refl refl refl refl refl k
 
   module _ (y : ℤ) (ev : v ≡ Value.Int y) where
     pub right-else : OneOf (1 ∷ 2 ∷ 3 ∷ []) (tagOf the-type w) → outcome (Arithmetic.Ended 31) ≡ arithmetic-operated k v w
     unfolding arithmetic-operated operated integer-in _>>=_
     right-else o = rw ev (go w o)
       where
-        go : (u : Value) → OneOf (1 ∷ 2 ∷ 3 ∷ []) (tagOf the-type u) → outcome (Arithmetic.Ended 31) ≡ operated [] [] (arithmetic-of k) (Value.Int y) u
+        go : (u : Value) → OneOf (1 ∷ 2 ∷ 3 ∷ []) (tagOf the-type u) → outcome (Arithmetic.Ended 31) ≡ operated no-constants [] (arithmetic-of k) (Value.Int y) u
         go (Value.Int z) q = absurd (miss (1 ∷ 2 ∷ 3 ∷ []) 0 tt q)
-        go (Value.Text x) q = arithmetic-case (λ o. ends 31 ≡ operated [] [] o (Value.Int y) (Value.Text x)) refl refl refl refl refl k
-        go (Value.Code n) q = arithmetic-case (λ o. ends 31 ≡ operated [] [] o (Value.Int y) (Value.Code n)) refl refl refl refl refl k
-        go (Value.Frame n) q = arithmetic-case (λ o. ends 31 ≡ operated [] [] o (Value.Int y) (Value.Frame n)) refl refl refl refl refl k
+        go (Value.Text x) q = arithmetic-case (λ o. ends 31 ≡ operated no-constants [] o (Value.Int y) (Value.Text x)) refl refl refl refl refl k
+        go (Value.Code n) q = arithmetic-case (λ o. ends 31 ≡ operated no-constants [] o (Value.Int y) (Value.Code n)) refl refl refl refl refl k
+        go (Value.Frame n) q = arithmetic-case (λ o. ends 31 ≡ operated no-constants [] o (Value.Int y) (Value.Frame n)) refl refl refl refl refl k
 
     pub both-integers : (z a b : ℤ) (r : Arithmetic) → w ≡ Value.Int z → outcome r ≡ integer-operated k a b → a ≡ y → b ≡ z → outcome r ≡ arithmetic-operated k v w
     unfolding integer-operated
@@ -123,17 +125,17 @@ answers-zero b e = rw e
 
 -- ---- compare
 
-module _ (lits made : List (List ℕ)) (k : ℕ) (v w : Value) where
-  pub is-equal : (r : Bool) → k ≡ 13 → r ≡ equal-values lits made v w → r ≡ compared lits made k v w
+module _ (c : Constants) (made : List (List ℕ)) (k : ℕ) (v w : Value) where
+  pub is-equal : (r : Bool) → k ≡ 13 → r ≡ equal-values c made v w → r ≡ compared c made k v w
   unfolding compared
   is-equal r e q = rw (eq-eqb k 13 e, q)
 
   module _ (n : k ≡ 13 → ⊥) (a b : Bool) (ea : a ≡ truth v) (eb : b ≡ truth w) where
-    pub is-and : k ≡ 14 → (a && b) ≡ compared lits made k v w
+    pub is-and : k ≡ 14 → (a && b) ≡ compared c made k v w
     unfolding compared
     is-and e = rw (ne-eqb k 13 n, eq-eqb k 14 e, ea, eb)
 
-    pub is-or : (k ≡ 14 → ⊥) → (a || b) ≡ compared lits made k v w
+    pub is-or : (k ≡ 14 → ⊥) → (a || b) ≡ compared c made k v w
     unfolding compared
     is-or e = rw (ne-eqb k 13 n, ne-eqb k 14 e, ea, eb)
 
@@ -155,54 +157,71 @@ of-flag-is true bs = refl
 of-flag-is false bs = refl
 
 -- what `arithmetic` and `compare` say is what the operator gives
-module _ (ls made : List (List ℕ)) (k : ℕ) (v w : Value) where
-  pub arithmetic-means : k < 12 → arithmetic-operated k v w ≡ operated ls made (operator-of k) v w
+module _ (c : Constants) (made : List (List ℕ)) (k : ℕ) (v w : Value) where
+  pub arithmetic-means : k < 12 → arithmetic-operated k v w ≡ operated c made (operator-of k) v w
   unfolding operator-of arithmetic-operated operated
-  arithmetic-means lt = rw (lt-ltb k 12 lt) (arithmetic-case (λ o. operated [] [] o v w ≡ operated ls made o v w) refl refl refl refl refl k)
+  arithmetic-means lt = rw (lt-ltb k 12 lt) (arithmetic-case (λ o. operated no-constants [] o v w ≡ operated c made o v w) refl refl refl refl refl k)
 
-  pub compared-means : 12 ≤ k → (k ≡ 12 → ⊥) → gives (flag (compared ls made k v w)) ≡ operated ls made (operator-of k) v w
+  pub compared-means : 12 ≤ k → (k ≡ 12 → ⊥) → gives (flag (compared c made k v w)) ≡ operated c made (operator-of k) v w
   unfolding operator-of operated compared
   compared-means ge n = rw (le-ltb k 12 ge, ne-eqb k 12 n) (go (eqb k 13) (eqb k 14))
     where
-      go : (x y : Bool) → gives (flag (pick x (equal-values ls made v w) (pick y (truth v && truth w) (truth v || truth w))))
-          ≡ operated ls made (pick x Operator.equal (pick y Operator.and Operator.or)) v w
+      go : (x y : Bool) → gives (flag (pick x (equal-values c made v w) (pick y (truth v && truth w) (truth v || truth w))))
+          ≡ operated c made (pick x Operator.equal (pick y Operator.and Operator.or)) v w
       go true y = refl
       go false true = refl
       go false false = refl
 
-module _ (p l h t : List ℕ) (k : ℕ) (v w : Value) (r : Operated) where
-  abbrev lits : List (List ℕ)
-  lits = literals-held p l
+module _ (p l h t : List ℕ) (k : ℕ) (v w : Value) where
+  abbrev held : Constants
+  held = constants-held p l
 
   abbrev made : List (List ℕ)
   made = texts-held h t
 
-  pub operates-integers : k < 12 → (a : Arithmetic) → outcome a ≡ arithmetic-operated k v w → r ≡ of-arithmetic a → Operates p l h t k v w r
-  operates-integers lt a ea er = record { is = rw (er, of-arithmetic-is a (join-bytes lits made v w), ea) (arithmetic-means lits made k v w lt) }
+  abbrev bytes : List ℕ
+  bytes = join-bytes (literals-held p l) made v w
 
-  module _ (ge : 12 ≤ k) where
-    pub operates-join : k ≡ 12 → (e : ℕ) → e ≡ join-end p h v w → r ≡ of-join e → Operates p l h t k v w r
-    unfolding operator-of
-    operates-join ek e ee er = record {
-      is =
-          rw (er, of-join-is e (join-bytes lits made v w), ee, le-ltb k 12 ge, eq-eqb k 12 ek)
-          (sym (join-means p l h t v w));
-    }
+  join-held : 12 ≤ k → k ≡ 12 → operated held made (operator-of k) v w ≡ join-result (join-end p h v w) bytes
+  unfolding operator-of constants-held
+  join-held ge ek = rw (le-ltb k 12 ge, eq-eqb k 12 ek) (join-means p l h t v w held refl)
 
-    pub operates-flag : (k ≡ 12 → ⊥) → (b : Bool) → b ≡ compared lits made k v w → r ≡ of-flag b → Operates p l h t k v w r
-    operates-flag n b eb er = record { is = rw (er, of-flag-is b (join-bytes lits made v w), eb) (compared-means lits made k v w ge n) }
+  module _ (r : Operated) where
+    pub operates-integers : k < 12 → (a : Arithmetic) → outcome a ≡ arithmetic-operated k v w → r ≡ of-arithmetic a → Operates p l h t k v w r
+    operates-integers lt a ea er = record { is = rw (er, of-arithmetic-is a bytes, ea) (arithmetic-means held made k v w lt) }
+
+    module _ (ge : 12 ≤ k) where
+      pub operates-join : k ≡ 12 → (e : ℕ) → e ≡ join-end p h v w → r ≡ of-join e → Operates p l h t k v w r
+      operates-join ek e ee er = record { is = rw (er, of-join-is e bytes, ee) (sym (join-held ge ek)) }
+
+      pub operates-flag : (k ≡ 12 → ⊥) → (b : Bool) → b ≡ compared held made k v w → r ≡ of-flag b → Operates p l h t k v w r
+      operates-flag n b eb er = record { is = rw (er, of-flag-is b bytes, eb) (compared-means held made k v w ge n) }
 
   -- operate_end
-  module _ (o : Operates p l h t k v w r) where
-    pub end-is : (e : ℕ) → r ≡ Operated.Ended e → e ≡ end-of (operated lits made (operator-of k) v w)
-    unfolding end-of
-    end-is e er = rw (← o .is, er)
+  pub end-compared : 12 < k → 0 ≡ end-of (operated held made (operator-of k) v w)
+  unfolding end-of
+  end-compared lt = rw (← compared-means held made k v w (omega arith) (λ e. omega arith))
 
-    pub end-else : OneOf (0 ∷ 1 ∷ []) (tagOf operated-type r) → 0 ≡ end-of (operated lits made (operator-of k) v w)
+  pub end-join : k ≤ 12 → 12 ≤ k → (e : ℕ) → e ≡ join-end p h v w → e ≡ end-of (operated held made (operator-of k) v w)
+  unfolding end-of join-result
+  end-join le ge e ee = rw (join-held ge (omega arith), ← ee) (go e)
+    where
+      go : (n : ℕ) → n ≡ end-of (join-result n bytes)
+      go zero = refl
+      go (suc n) = refl
+
+  module _ (lt : k < 12) (a : Arithmetic) (ea : outcome a ≡ arithmetic-operated k v w) where
+    arithmetic-held : operated held made (operator-of k) v w ≡ outcome a
+    arithmetic-held = sym (ea ∙ arithmetic-means held made k v w lt)
+
+    pub end-is : (e : ℕ) → a ≡ Arithmetic.Ended e → e ≡ end-of (operated held made (operator-of k) v w)
     unfolding end-of
-    end-else q = rw (← o .is) (go r q)
+    end-is e er = rw (arithmetic-held, er)
+
+    pub end-else : OneOf (0 ∷ []) (tagOf arithmetic-type a) → 0 ≡ end-of (operated held made (operator-of k) v w)
+    unfolding end-of
+    end-else q = rw arithmetic-held (go a q)
       where
-        go : (x : Operated) → OneOf (0 ∷ 1 ∷ []) (tagOf operated-type x) → 0 ≡ end-of (operation x (join-bytes lits made v w))
-        go (Operated.Integer z) m = refl
-        go Operated.Joined m = refl
-        go (Operated.Ended e) m = absurd (miss (0 ∷ 1 ∷ []) 2 tt m)
+        go : (x : Arithmetic) → OneOf (0 ∷ []) (tagOf arithmetic-type x) → 0 ≡ end-of (outcome x)
+        go (Arithmetic.Integer z) m = refl
+        go (Arithmetic.Ended e) m = absurd (miss (0 ∷ []) 1 tt m)

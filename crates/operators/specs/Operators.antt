@@ -7,12 +7,16 @@ use lib.Dec.{eqb, ltb}
 use lib.IntN.{ℤ, pos}
 use Rattle.words.specs.Words.{pick}
 use Rattle.framed.specs.declared.Value.{Value}
-use Rattle.framed.specs.Values.{join-bytes, truth, equal-values}
+use Rattle.framed.specs.Values.{join-bytes, truth}
+use Rattle.framed.specs.Equality.{Constants, equal-values}
 use Rattle.framed.specs.Tokens.{Operator}
 use Rattle.framed.specs.Machine.{Result, gives, ends}
 use Rattle.bounded.specs.Operations.{Product, number, text, operated}
 use Rattle.heap.specs.Held.{texts-held}
+use Rattle.program_form.specs.WellFormed.{WellFormed}
 use Rattle.texts.specs.Literals.{literals-held}
+use Rattle.texts.specs.Texts.{Readable}
+use Rattle.program_equality.specs.Agreement.{constants-held}
 use Rattle.arith.specs.declared.Arithmetic.{Arithmetic}
 use Rattle.operators.specs.declared.Operated.{Operated}
 
@@ -38,17 +42,26 @@ operation (Operated.Integer z) bs = gives (number z)
 operation Operated.Joined bs = gives (text bs)
 operation (Operated.Ended e) bs = ends e
 
--- what they give: they look at no text
+-- they look at no text and at no code
+abbrev pub no-constants : Constants
+no-constants = record { literals = []; codes = [] }
+
+-- what they give
 unfoldable pub arithmetic-operated : ℕ → Value → Value → Result Product
-arithmetic-operated k v w = operated [] [] (arithmetic-of k) v w
+arithmetic-operated k v w = operated no-constants [] (arithmetic-of k) v w
 
 unfoldable pub integer-operated : ℕ → ℤ → ℤ → Result Product
 integer-operated k y z = arithmetic-operated k (Value.Int y) (Value.Int z)
 
+-- what comparing two values asks; well-formed memories have it
+pub record Comparable (p l h t : List ℕ) : Type 0 where
+  pub program : WellFormed p l
+  pub readable : Readable p l h t
+
 -- `== && ||`, and every other kind counts as `||`
-unfoldable pub compared : List (List ℕ) → List (List ℕ) → ℕ → Value → Value → Bool
-compared literals made k v w =
-    pick (eqb k 13) (equal-values literals made v w) (pick (eqb k 14) (truth v && truth w) (truth v || truth w))
+unfoldable pub compared : Constants → List (List ℕ) → ℕ → Value → Value → Bool
+compared c made k v w =
+    pick (eqb k 13) (equal-values c made v w) (pick (eqb k 14) (truth v && truth w) (truth v || truth w))
 
 -- the answer of each group as that of `operate`
 unfoldable pub of-arithmetic : Arithmetic → Operated
@@ -64,4 +77,4 @@ of-flag b = pick b (Operated.Integer (pos 1)) (Operated.Integer (pos 0))
 -- the operator of the kind gives what the answer says
 pub record Operates (p l h t : List ℕ) (k : ℕ) (v w : Value) (r : Operated) : Type 0 where
   pub is :
-      operation r (join-bytes (literals-held p l) (texts-held h t) v w) ≡ operated (literals-held p l) (texts-held h t) (operator-of k) v w
+      operation r (join-bytes (literals-held p l) (texts-held h t) v w) ≡ operated (constants-held p l) (texts-held h t) (operator-of k) v w

@@ -2,13 +2,13 @@
 use arith::Arithmetic;
 use framed::Value;
 ghost use mathlib.Core.Path.{_≡_};
+ghost use Rattle.framed.specs.Equality.{equal-values};
 ghost use Rattle.bounded.specs.Check.{end-of};
 ghost use Rattle.bounded.specs.Operations.{operated};
 ghost use Rattle.heap.specs.Held.{texts-held};
-ghost use Rattle.texts.specs.Literals.{literals-held};
-ghost use Rattle.texts.specs.Texts.{Readable};
+ghost use Rattle.program_equality.specs.Agreement.{constants-held};
 ghost use Rattle.arith.specs.Arith.{outcome};
-ghost use Rattle.operators.specs.Operators.{operator-of, integer-operated, arithmetic-operated, compared, of-arithmetic, of-join, of-flag, Operates};
+ghost use Rattle.operators.specs.Operators.{Comparable, operator-of, integer-operated, arithmetic-operated, compared, of-arithmetic, of-join, of-flag, Operates};
 
 // What an operator gives: an integer, the bytes of the two values joined, or an end.
 pub enum Operated {
@@ -52,6 +52,39 @@ pub fn arithmetic(kind: u32, v: Value, w: Value) -> Arithmetic
     integers(kind, a, b)
 }
 
+// `==`
+fn equal_values<'a>(p: &[u32], l: &'a [u8], h: &[u32], t: &'a [u8], v: Value, w: Value) -> bool
+    requires { ⌜ Comparable (now p) (now l) (now h) (now t) ⌝ }
+    ensures { λ r. ⌜ r ≡ equal-values (constants-held (now (p .entry)) (now (l .entry))) (texts-held (now (h .entry)) (now (t .entry))) v w ⌝ }
+{
+    match v {
+        Value::Int(y) => {
+            let Value::Int(z) = w else {
+                return false;
+            };
+            arith::same(y, z)
+        }
+        Value::Text(x) => {
+            let Value::Text(y) = w else {
+                return false;
+            };
+            texts::same_texts(p, l, h, t, x, y)
+        }
+        Value::Code(k) => {
+            let Value::Code(m) = w else {
+                return false;
+            };
+            program_equality::same_codes(p, l, k, m)
+        }
+        Value::Frame(f) => {
+            let Value::Frame(g) = w else {
+                return false;
+            };
+            f == g
+        }
+    }
+}
+
 // `== && ||`, kinds 13 to 15.
 pub fn compare<'a>(
     p: &[u32],
@@ -62,11 +95,11 @@ pub fn compare<'a>(
     v: Value,
     w: Value,
 ) -> bool
-    requires { ⌜ Readable (now p) (now l) (now h) (now t) ⌝ }
-    ensures { λ r. ⌜ r ≡ compared (literals-held (now (p .entry)) (now (l .entry))) (texts-held (now (h .entry)) (now (t .entry))) kind v w ⌝ }
+    requires { ⌜ Comparable (now p) (now l) (now h) (now t) ⌝ }
+    ensures { λ r. ⌜ r ≡ compared (constants-held (now (p .entry)) (now (l .entry))) (texts-held (now (h .entry)) (now (t .entry))) kind v w ⌝ }
 {
     if kind == 13 {
-        return texts::equal_values(p, l, h, t, v, w);
+        return equal_values(p, l, h, t, v, w);
     }
     if kind == 14 {
         return texts::truth(v) & texts::truth(w);
@@ -110,7 +143,7 @@ pub fn operate<'a>(
     v: Value,
     w: Value,
 ) -> Operated
-    requires { ⌜ Readable (now p) (now l) (now h) (now t) ⌝ }
+    requires { ⌜ Comparable (now p) (now l) (now h) (now t) ⌝ }
     ensures { λ r. ⌜ Operates (now (p .entry)) (now (l .entry)) (now (h .entry)) (now (t .entry)) kind v w r ⌝ }
 {
     if kind < 12 {
@@ -122,7 +155,7 @@ pub fn operate<'a>(
     of_flag(compare(p, l, h, t, kind, v, w))
 }
 
-// The end that an operator meets, 0 where it meets none.
+// The end that an operator meets, 0 where it meets none. A comparison meets none, so it is not made.
 pub fn operate_end<'a>(
     p: &[u32],
     l: &'a [u8],
@@ -132,10 +165,15 @@ pub fn operate_end<'a>(
     v: Value,
     w: Value,
 ) -> u32
-    requires { ⌜ Readable (now p) (now l) (now h) (now t) ⌝ }
-    ensures { λ r. ⌜ r ≡ end-of (operated (literals-held (now (p .entry)) (now (l .entry))) (texts-held (now (h .entry)) (now (t .entry))) (operator-of kind) v w) ⌝ }
+    ensures { λ r. ⌜ r ≡ end-of (operated (constants-held (now (p .entry)) (now (l .entry))) (texts-held (now (h .entry)) (now (t .entry))) (operator-of kind) v w) ⌝ }
 {
-    let Operated::Ended(e) = operate(p, l, h, t, kind, v, w) else {
+    if 12 < kind {
+        return 0;
+    }
+    if 12 <= kind {
+        return joining::join_end(p, h, v, w);
+    }
+    let Arithmetic::Ended(e) = arithmetic(kind, v, w) else {
         return 0;
     };
     e

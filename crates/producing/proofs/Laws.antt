@@ -36,7 +36,8 @@ use Rattle.word_store.specs.State.{store-held}
 use Rattle.operands.specs.Operands.{operand-value}
 use Rattle.operators.specs.declared.Operated.{Operated}
 use Rattle.operators.specs.Operators as operators
-use Rattle.operators.specs.Operators.{operator-of}
+use Rattle.operators.specs.Operators.{operator-of, Comparable}
+use Rattle.program_equality.specs.Agreement.{constants-held}
 use Rattle.producing.specs.Producing.{HasRoom, Writable, made, read-entry, read-value, MakesText, CanJoin, Joins, CanProduce, Produces, operation-held, Operates}
 use Rattle.producing.proofs.Operated.{Modest, a-text, operated-modest}
 use Rattle.producing.proofs.Leaves.{leaves-none, text-store, text-next, text-leaves}
@@ -92,6 +93,9 @@ readable-from p l h t w = record {
   made = record { inside = λ k lt. let a = w .sized .texts k lt in let c = w .text-size in omega arith };
 }
 
+pub comparable-from : (p l h t : List ℕ) → Writable p l h t → Comparable p l h t
+comparable-from p l h t w = record { program = w .program; readable = readable-from p l h t w }
+
 -- ---- join
 
 pub text-made : (h t bs : List ℕ) (k a : ℕ) (h′ t′ : List ℕ) → k ≡ next-text h → a ≡ k → t′ ≡ splice t (64 * a) bs → h′ ≡ take-text h k (length bs)
@@ -127,7 +131,7 @@ module _ (p l h t : List ℕ) (k : ℕ) (v w : Value) (can : CanProduce p l h t 
   bytes = join-bytes (literals-held p l) (texts-held h t) v w
 
   abbrev result : Result Product
-  result = operated (literals-held p l) (texts-held h t) (operator-of k) v w
+  result = operated (constants-held p l) (texts-held h t) (operator-of k) v w
 
   nothing : (r : Value) → produce word-store result (store-held h t) ≡ made r h t → Produces p l h t k v w r h t
   nothing r e = record { produced = e; leaves = leaves-none 0 (is-join (operator-of k)) (can .writable .sized) (can .writable .text-size) }
@@ -145,7 +149,7 @@ module _ (p l h t : List ℕ) (k : ℕ) (v w : Value) (can : CanProduce p l h t 
     gave = rw is at (eo .is)
 
     modest : Modest (is-join (operator-of k)) (gives (text bytes))
-    modest = rw gave (operated-modest (literals-held p l) (texts-held h t) (operator-of k) v w)
+    modest = rw gave (operated-modest (constants-held p l) (texts-held h t) (operator-of k) v w)
 
     short-bytes : Modest (is-join (operator-of k)) (gives (text bytes)) → length bytes ≤ 64
     short-bytes (a-text one le) = le

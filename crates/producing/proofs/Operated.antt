@@ -13,6 +13,7 @@ use Rattle.framed.specs.declared.Value.{Value}
 use Rattle.framed.specs.Common.{if_then_else_}
 use Rattle.framed.specs.Tokens.{Operator, in-range}
 use Rattle.framed.specs.Values.{join-bytes}
+use Rattle.framed.specs.Equality.{Constants}
 use Rattle.framed.specs.Machine as M
 use Rattle.framed.specs.Machine.{Result, gives, ends, integer-in, quotient, is-join}
 use Rattle.bounded.specs.Operations.{Product, number, text, ranged, measured, flag, operated}
@@ -61,14 +62,14 @@ over-modest y (pos zero) = an-end
 over-modest y (pos (suc n)) = ranged-modest _
 over-modest y (negsuc n) = ranged-modest _
 
-pub operated-modest : (ls made : List (List ℕ)) (o : Operator) (v w : Value) → Modest (is-join o) (operated ls made o v w)
+pub operated-modest : (cs : Constants) (made : List (List ℕ)) (o : Operator) (v w : Value) → Modest (is-join o) (operated cs made o v w)
 unfolding operated is-join
-operated-modest ls made Operator.plus v w = integers-modest v w _ (λ y z. ranged-modest (y +ℤ z))
-operated-modest ls made Operator.minus v w = integers-modest v w _ (λ y z. ranged-modest (y -ℤ z))
-operated-modest ls made Operator.times v w = integers-modest v w _ (λ y z. ranged-modest (y *ℤ z))
-operated-modest ls made Operator.over v w = integers-modest v w _ (λ y z. over-modest y z)
-operated-modest ls made Operator.less v w = integers-modest v w _ (λ y z. flag-modest (ltZ y z))
-operated-modest ls made Operator.join v w = measured-modest (join-bytes ls made v w)
-operated-modest ls made Operator.equal v w = flag-modest _
-operated-modest ls made Operator.and v w = flag-modest _
-operated-modest ls made Operator.or v w = flag-modest _
+operated-modest cs made Operator.plus v w = integers-modest v w _ (λ y z. ranged-modest (y +ℤ z))
+operated-modest cs made Operator.minus v w = integers-modest v w _ (λ y z. ranged-modest (y -ℤ z))
+operated-modest cs made Operator.times v w = integers-modest v w _ (λ y z. ranged-modest (y *ℤ z))
+operated-modest cs made Operator.over v w = integers-modest v w _ (λ y z. over-modest y z)
+operated-modest cs made Operator.less v w = integers-modest v w _ (λ y z. flag-modest (ltZ y z))
+operated-modest cs made Operator.join v w = measured-modest (join-bytes (cs .literals) made v w)
+operated-modest cs made Operator.equal v w = flag-modest _
+operated-modest cs made Operator.and v w = flag-modest _
+operated-modest cs made Operator.or v w = flag-modest _

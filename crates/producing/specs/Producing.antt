@@ -17,7 +17,6 @@ use Rattle.heap.specs.Words.{take-text}
 use Rattle.heap.specs.Held.{texts-held, frames-in-use, texts-in-use}
 use Rattle.heap.specs.Closed.{Sized, FrameInUse, TextInUse}
 use Rattle.allocation.specs.Allocation.{next-text}
-use Rattle.texts.specs.Literals.{literals-held}
 use Rattle.texts.specs.Texts.{Readable}
 use Rattle.splice.specs.Splice.{splice}
 use Rattle.shown.specs.Shown.{shown-size}
@@ -27,6 +26,7 @@ use Rattle.bounded.specs.Bounded.{value-given, Produced, produce}
 use Rattle.word_store.specs.Store.{Memories, word-store}
 use Rattle.word_store.specs.State.{store-held}
 use Rattle.operands.specs.Operands.{operand-value}
+use Rattle.program_equality.specs.Agreement.{constants-held}
 use Rattle.operators.specs.Operators.{operator-of}
 
 -- ---- What is written, and what it leaves
@@ -100,7 +100,7 @@ pub record CanProduce (p l h t : List ℕ) (k : ℕ) : Type 0 where
 
 -- the operator of kind k between two values
 pub record Produces (p l h t : List ℕ) (k : ℕ) (v w r : Value) (h′ t′ : List ℕ) : Type 0 where
-  pub produced : produce word-store (operated (literals-held p l) (texts-held h t) (operator-of k) v w) (store-held h t) ≡ made r h′ t′
+  pub produced : produce word-store (operated (constants-held p l) (texts-held h t) (operator-of k) v w) (store-held h t) ≡ made r h′ t′
   pub leaves : Leaves h t 0 (is-join (operator-of k)) h′ t′
 
 -- the same between the values of expressions a and b
@@ -108,7 +108,7 @@ unfoldable pub operation-held : List ℕ → List ℕ → List ℕ → List ℕ 
 operation-held p l h t k a b = do
   v ← operand-value p h a
   w ← operand-value p h b
-  operated (literals-held p l) (texts-held h t) (operator-of k) v w
+  operated (constants-held p l) (texts-held h t) (operator-of k) v w
 
 pub record Operates (p l h t : List ℕ) (k a b : ℕ) (r : Value) (h′ t′ : List ℕ) : Type 0 where
   pub produced : produce word-store (operation-held p l h t k a b) (store-held h t) ≡ made r h′ t′

@@ -11,6 +11,7 @@ use Rattle.framed.specs.Tree.{Expression, Slots, Instruction, Code}
 use Rattle.framed.specs.Paths.{Path, from-self, from-program}
 use Rattle.framed.specs.Program.{Program}
 use Rattle.framed.specs.Values.{truth}
+use Rattle.framed.specs.Equality.{Constants, constants}
 use Rattle.framed.specs.Machine.{Result, gives, ends, base-value, frame-literals, join-signs, right-side}
 use Rattle.allocation.specs.Allocation.{next-text}
 use Rattle.puts.specs.Puts.{put-slot}
@@ -49,17 +50,17 @@ produced (gives (number z)) s c = c
 produced (gives (text bs)) s c = texted s bs c
 produced (ends e) s c = c
 
-module _ (literals : List (List ℕ)) (Σ Π : Value) where
+module _ (fixed : Constants) (Σ Π : Value) where
   mutual
     unfolding evaluate
 
-    evaluates : (e : Expression Path) (s : Memories) → Cleared s → Cleared (evaluate word-store literals Σ Π e s .store)
+    evaluates : (e : Expression Path) (s : Memories) → Cleared s → Cleared (evaluate word-store fixed Σ Π e s .store)
     evaluates (Expression.base b) s c = c
     evaluates (Expression.not b) s c = c
-    evaluates (Expression.operation o a b) s c = produced (operation-result literals Σ Π (heap-in word-store s) o a b) s c
+    evaluates (Expression.operation o a b) s c = produced (operation-result fixed Σ Π (heap-in word-store s) o a b) s c
     evaluates (Expression.frame ss) s c = fills (word-store .next-frame s) ss (word-store .claim-frame s) (claimed s c)
 
-    fills : (n : ℕ) (ss : Slots Path) (s : Memories) → Cleared s → Cleared (fill word-store literals Σ Π n ss s)
+    fills : (n : ℕ) (ss : Slots Path) (s : Memories) → Cleared s → Cleared (fill word-store fixed Σ Π n ss s)
     fills n Slots.no-slots s c = c
     fills n (Slots.slot x e ss) s c = fills n ss _ (pushed _ n x _ (evaluates e s c))
 
@@ -85,7 +86,7 @@ jumps b (ends e) c = c
 module _ (q : Program) (b : Bounded Memories) (rest : Code Path) (c : Cleared (b .store)) where
   committed : (i : Instruction Path) → Cleared (commit word-store q b rest i .store)
   unfolding commit
-  committed (Instruction.assign path e) = assigns b rest path _ (evaluates (q .literals) (b .self) (b .program) e (b .store) c)
+  committed (Instruction.assign path e) = assigns b rest path _ (evaluates (constants q) (b .self) (b .program) e (b .store) c)
   committed (Instruction.show a) = c
   committed (Instruction.jump a d) = jumps b (jump-result (q .codes) (b .self) (b .program) (heap-in word-store (b .store) .frames) a d) c
   committed (Instruction.ifeq a d e) = go (truth (value-given (base-value (b .self) (b .program) (heap-in word-store (b .store) .frames) a))) refl

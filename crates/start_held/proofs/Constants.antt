@@ -11,6 +11,7 @@ use Rattle.framed.specs.declared.Value.{Value}
 use Rattle.framed.specs.Tree.{Expression, Slots}
 use Rattle.framed.specs.Paths.{Path}
 use Rattle.framed.specs.Values.{new-frame}
+use Rattle.framed.specs.Equality.{Constants}
 use Rattle.framed.specs.Machine.{join-signs, join-signs-in}
 use Rattle.framed.proofs.General.{none≢some}
 use Rattle.heap.specs.Words.{frame-used}
@@ -41,15 +42,15 @@ mutual
 header-both : {h h′ h″ : List ℕ} → KeepsHeader h h′ → KeepsHeader h′ h″ → KeepsHeader h h″
 header-both a b = record { agree = λ k lo hi. b .agree k lo hi ∙ a .agree k lo hi }
 
-module _ (ls : List (List ℕ)) (Σ Π : Value) where
+module _ (fixed : Constants) (Σ Π : Value) where
   mutual
     unfolding evaluate
 
-    pub evaluate-header : (e : Expression Path) → ConstantExpression e → (s : Memories) → KeepsHeader (s .heap) (evaluate word-store ls Σ Π e s .store .heap)
+    pub evaluate-header : (e : Expression Path) → ConstantExpression e → (s : Memories) → KeepsHeader (s .heap) (evaluate word-store fixed Σ Π e s .store .heap)
     evaluate-header _ (ConstantExpression.base c) s = keeps-all (s .heap)
     evaluate-header _ (ConstantExpression.frame c) s = header-both (keeps-claim (s .heap)) (fill-header _ c _ _)
 
-    fill-header : (ss : Slots Path) → ConstantSlots ss → (n : ℕ) (s : Memories) → KeepsHeader (s .heap) (fill word-store ls Σ Π n ss s .heap)
+    fill-header : (ss : Slots Path) → ConstantSlots ss → (n : ℕ) (s : Memories) → KeepsHeader (s .heap) (fill word-store fixed Σ Π n ss s .heap)
     fill-header _ ConstantSlots.no-slots n s = keeps-all (s .heap)
     fill-header _ (ConstantSlots.slot c cs) n s = header-both (evaluate-header _ c s) (header-both (keeps-add _ n _ _) (fill-header _ cs n _))
 

@@ -18,6 +18,7 @@ use Rattle.framed.specs.Paths.{Path}
 use Rattle.framed.specs.Meaning.{slot-names}
 use Rattle.framed.specs.Program.{Program}
 use Rattle.framed.specs.Values.{Slot, Frame, Heap, new-frame, with-slots}
+use Rattle.framed.specs.Equality.{Constants, constants}
 use Rattle.framed.specs.Fetch.{in-slots, in-frame}
 use Rattle.framed.specs.Machine.{Result, gives, base-value, with-frame, with-frames, frame-literals, frame-literals-in}
 use Rattle.framed.specs.Machine as M
@@ -115,8 +116,8 @@ module _ {S : Type 0} (𝓞 : Store S) (p : Program) (𝓛 : Laws 𝓞 p) (lowes
     (Σ Π : Value) where
   open Store 𝓞 using (view, next-frame, claim-frame, push)
 
-  abbrev ls : List (List ℕ)
-  ls = p .literals
+  abbrev fixed : Constants
+  fixed = constants p
 
   -- the number after the last
   pub next-is : {E : ℕ → Bool} (s : S) (h : Heap) → Same E (view s) h → frame-at (view s) (next-frame s) ≡ none → next-frame s ≡ length (h .frames)
@@ -185,7 +186,7 @@ module _ {S : Type 0} (𝓞 : Store S) (p : Program) (𝓛 : Laws 𝓞 p) (lowes
   }
 
   constant-same : (E : ℕ → Bool) (b : Base Path) → Constant b → BaseFits p b → (s : S) (h : Heap) → Here E s h 0 →
-      Evaluated E s h 0 (B.evaluate 𝓞 ls Σ Π (Expression.base b) s) (M.evaluate ls Σ Π (Expression.base b) h)
+      Evaluated E s h 0 (B.evaluate 𝓞 fixed Σ Π (Expression.base b) s) (M.evaluate fixed Σ Π (Expression.base b) h)
   unfolding B.evaluate M.evaluate M._>>=_ base-value value-given
   constant-same E _ Constant.integer f s h H = unchanged s h _ H (valid-integer f)
   constant-same E _ Constant.string f s h H = unchanged s h _ H (valid-literal f)
@@ -312,7 +313,7 @@ module _ {S : Type 0} (𝓞 : Store S) (p : Program) (𝓛 : Laws 𝓞 p) (lowes
     unfolding B.evaluate M.evaluate frame-literals
 
     pub evaluate-same : (E : ℕ → Bool) (e : Expression Path) → ConstantExpression e → ExpressionFits p e → (s : S) (h : Heap) → Here E s h (frame-literals e) →
-        Evaluated E s h (frame-literals e) (B.evaluate 𝓞 ls Σ Π e s) (M.evaluate ls Σ Π e h)
+        Evaluated E s h (frame-literals e) (B.evaluate 𝓞 fixed Σ Π e s) (M.evaluate fixed Σ Π e h)
     evaluate-same E _ (ConstantExpression.base {b = b} c) t s h H = constant-same E b c t s h H
     evaluate-same E _ (ConstantExpression.frame {ss = ss} c) t s h H =
         frame-same E (frame-literals-in ss) s h H _ _
@@ -320,7 +321,7 @@ module _ {S : Type 0} (𝓞 : Store S) (p : Program) (𝓛 : Laws 𝓞 p) (lowes
         (claim-here E (frame-literals-in ss) s h H) (claim-open E (frame-literals-in ss) s h H ss (t .0)))
 
     fill-same : (E : ℕ → Bool) (ss : Slots Path) → ConstantSlots ss → SlotsFit p ss → (k : ℕ) (f : Frame) (s : S) (h : Heap) → Here E s h (frame-literals-in ss) → Open E k f s ss →
-        Filled E k f s h (frame-literals-in ss) (B.fill 𝓞 ls Σ Π k ss s) (M.fill ls Σ Π ss h)
+        Filled E k f s h (frame-literals-in ss) (B.fill 𝓞 fixed Σ Π k ss s) (M.fill fixed Σ Π ss h)
     fill-same E _ ConstantSlots.no-slots t k f s h H P = record {
       added = [];
       heap = h;
@@ -338,5 +339,5 @@ module _ {S : Type 0} (𝓞 : Store S) (p : Program) (𝓛 : Laws 𝓞 p) (lowes
         let a = frame-literals e in
         let b = frame-literals-in ss in
         let D = evaluate-same E e c (t .2) s h (record { well-formed = H .well-formed; same = H .same; room = omega (arith, H .room) }) in
-        slot-filled E x a b k f e ss s h (t .0) (t .1) H P _ _ D _ (λ g. M.fill ls Σ Π ss g)
+        slot-filled E x a b k f e ss s h (t .0) (t .1) H P _ _ D _ (λ g. M.fill fixed Σ Π ss g)
         (fill-same E ss cs (t .3) k _ _ (D .heap) (slot-here E x a b k f e ss s h (t .0) (t .1) H P _ _ D) (slot-open E x a b k f e ss s h (t .0) (t .1) H P _ _ D))

@@ -14,6 +14,7 @@ use Rattle.framed.specs.Tree.{Expression, Slots, Code}
 use Rattle.framed.specs.Paths.{Path}
 use Rattle.framed.specs.Program.{Program}
 use Rattle.framed.specs.Values.{Frame, new-frame, empty-heap}
+use Rattle.framed.specs.Equality.{constants}
 use Rattle.framed.specs.Reach.{slot-value, values-in}
 use Rattle.framed.specs.Machine.{State, with-frame, start-from, start, frame-literals, frame-literals-in}
 use Rattle.framed.specs.Machine as M
@@ -91,13 +92,13 @@ module _ (p l : List ℕ) (q : Program) (a : Holds p l q) where
   tree = Expression.frame (q .slots)
 
   abbrev made : Produced Memories
-  made = evaluate word-store (q .literals) zero-value zero-value tree blank
+  made = evaluate word-store (constants q) zero-value zero-value tree blank
 
   written-is : written p l ≡ made
   unfolding written
   written-is =
-      ap (λ (ls : List (List ℕ)). evaluate word-store ls zero-value zero-value (Expression.frame (written-slots p)) blank) (ap (λ (r : Program). r .literals) (a .decodes))
-      ∙ ap (λ (ss : Slots Path). evaluate word-store (q .literals) zero-value zero-value (Expression.frame ss) blank) slots-are
+      ap (λ (r : Program). evaluate word-store (constants r) zero-value zero-value (Expression.frame (written-slots p)) blank) (a .decodes)
+      ∙ ap (λ (ss : Slots Path). evaluate word-store (constants q) zero-value zero-value (Expression.frame ss) blank) slots-are
 
   few : frame-literals-in (q .slots) + 2 ≤ fields.frame-limit p
   few = let w = a .written .few in omega arith
@@ -138,7 +139,7 @@ module _ (p l : List ℕ) (q : Program) (a : Holds p l q) where
     room = omega (arith, frames-counted (cleared 16384) (cleared 16384), blank-frames, few-entries);
   }
 
-  D : Evaluated word-store q laws lowest-used zero-value zero-value nothing-open blank empty-heap (frame-literals tree) made (M.evaluate (q .literals) zero-value zero-value tree empty-heap)
+  D : Evaluated word-store q laws lowest-used zero-value zero-value nothing-open blank empty-heap (frame-literals tree) made (M.evaluate (constants q) zero-value zero-value tree empty-heap)
   D = evaluate-same word-store q laws lowest-used zero-value zero-value nothing-open tree (ConstantExpression.frame (a .written .constant)) tree-fits blank empty-heap start-here
 
   -- ---- A further frame for self
@@ -159,7 +160,7 @@ module _ (p l : List ℕ) (q : Program) (a : Holds p l q) where
   g = next-frame (made .store .heap)
 
   text-is : made .store .text ≡ cleared 16384
-  text-is = evaluate-text (q .literals) zero-value zero-value tree blank (no-joins tree (ConstantExpression.frame (a .written .constant)))
+  text-is = evaluate-text (constants q) zero-value zero-value tree blank (no-joins tree (ConstantExpression.frame (a .written .constant)))
 
   view-same : Same nothing-open (view-held h₁ (made .store .text)) (with-frame (D .heap))
   view-same = claimed-same word-store q laws lowest-used zero-value zero-value nothing-open 0 (made .store) (D .heap) self-here
@@ -170,7 +171,7 @@ module _ (p l : List ℕ) (q : Program) (a : Holds p l q) where
   header-zero : (k : ℕ) → k < 6 → word h₁ k ≡ 0
   header-zero k lt =
       keeps-claim (made .store .heap) .agree k (omega arith) lt
-      ∙ evaluate-header (q .literals) zero-value zero-value tree (ConstantExpression.frame (a .written .constant)) blank .agree k (omega arith) lt
+      ∙ evaluate-header (constants q) zero-value zero-value tree (ConstantExpression.frame (a .written .constant)) blank .agree k (omega arith) lt
       ∙ blank-word 16384 k
 
   no-text : (k : ℕ) → text-at (view-held h₁ (made .store .text)) k ≡ none

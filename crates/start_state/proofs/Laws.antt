@@ -15,7 +15,7 @@ use Rattle.bounded.specs.Bounded.{evaluate}
 use Rattle.word_store.specs.Store.{Memories, memories, claim-frame}
 use Rattle.word_store.specs.State.{store-held}
 use Rattle.producing.specs.Producing.{Leaves}
-use Rattle.evaluation.specs.Evaluation.{strings, Claims, CanFill, Fills}
+use Rattle.evaluation.specs.Evaluation.{program-constants, Claims, CanFill, Fills}
 use Rattle.evaluation.proofs.Stores.{claim-in-use, claim-leaves}
 use Rattle.emission.specs.Emit.{cleared}
 use Rattle.start_state.specs.Start.{written-slots, written, new-self, rooted, start-heap, CanStart, Makes, Starts}
@@ -76,7 +76,7 @@ module _ (p l h t : List ℕ) (can : CanStart p l h t) (f : ℕ) (h₁ : List �
 
     text-stays : written p l .store .text ≡ cleared 16384
     unfolding written join-signs
-    text-stays = evaluate-text (strings p l) _ _ (Expression.frame (written-slots p)) (memories (cleared 16384) (cleared 16384)) (can .no-joins)
+    text-stays = evaluate-text (program-constants p l) _ _ (Expression.frame (written-slots p)) (memories (cleared 16384) (cleared 16384)) (can .no-joins)
 
     value-is : Value.Frame f ≡ written p l .value
     unfolding written evaluate

@@ -16,7 +16,7 @@ use Rattle.heap.specs.Words.{set-self, set-program, set-position}
 use Rattle.allocation.specs.Allocation.{next-frame}
 use Rattle.bounded.specs.Bounded.{Produced, evaluate}
 use Rattle.word_store.specs.Store.{Memories, memories, word-store, claim-frame}
-use Rattle.evaluation.specs.Evaluation.{strings}
+use Rattle.evaluation.specs.Evaluation.{program-constants}
 use Rattle.emission.specs.Emit.{cleared}
 
 -- the slots of the program frame
@@ -26,7 +26,7 @@ written-slots p = trees.slots-held p (program-slots p)
 -- the written frames, made by the rule of a frame expression on cleared memories, where self and program are integer 0: the program frame, and both memories
 unfoldable pub written : List ℕ → List ℕ → Produced Memories
 written p l =
-    evaluate word-store (strings p l) (Value.Int (pos 0)) (Value.Int (pos 0)) (Expression.frame (written-slots p)) (memories (cleared 16384) (cleared 16384))
+    evaluate word-store (program-constants p l) (Value.Int (pos 0)) (Value.Int (pos 0)) (Expression.frame (written-slots p)) (memories (cleared 16384) (cleared 16384))
 
 -- heap words h with self a new frame
 unfoldable pub new-self : List ℕ → List ℕ

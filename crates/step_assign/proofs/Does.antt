@@ -13,10 +13,10 @@ use Rattle.tables.specs.Fields.{instruction-a, instruction-b, instruction-c, in
 use Rattle.trees.specs.Trees.{path-list}
 use Rattle.heap.specs.Words.{set-position}
 use Rattle.wellformed.specs.WellFormed.{limits}
-use Rattle.texts.specs.Texts.{Readable}
+use Rattle.operators.specs.Operators.{Comparable}
 use Rattle.checking.proofs.Laws.{assign-met, assign-put}
 use Rattle.producing.specs.Producing.{HasRoom}
-use Rattle.producing.proofs.Laws.{readable-from}
+use Rattle.producing.proofs.Laws.{comparable-from}
 use Rattle.commit.specs.Commit.{root-of, set-root, path-of, Assigns, assignment}
 use Rattle.commit.specs.Direct.{CanDo, CanDoEntry, MakesNothing, makes-frame, makes-text, end-met, Does}
 use Rattle.commit.proofs.Laws.{sets-root, puts-root}
@@ -79,8 +79,8 @@ module _ (p l h t : List ℕ) (i j n x : ℕ) (can : CanDo p l h t i) (root : Va
     })
 
 module _ (p l h t : List ℕ) (i : ℕ) (own : Bool) (at : CanDoEntry p l h t i (assignment own (instruction-a p i) (instruction-b p i) (instruction-c p i))) where
-  pub assign-readable : Readable p l h t
-  assign-readable = readable-from p l h t (writable p l h t i (at .can))
+  pub assign-comparable : Comparable p l h t
+  assign-comparable = comparable-from p l h t (writable p l h t i (at .can))
 
   module _ (x : ℕ) (ex : x ≡ instruction-c p i) (g : Given) (eg : g ≡ expression-given p l h t x) where
     here : Assignment p l h t i (instruction-a p i) (instruction-b p i) x (root-of own h) (path-of own (path-list p (instruction-b p i) (instruction-a p i)))

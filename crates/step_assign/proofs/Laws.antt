@@ -28,7 +28,6 @@ use Rattle.paths.specs.Paths.{slot-from, fetched, path-held}
 use Rattle.puts.specs.declared.PutTarget.{PutTarget}
 use Rattle.puts.specs.Puts.{targeted, target-along, put-slot}
 use Rattle.puts.proofs.Laws.{end-past, end-free, end-found, end-room, end-full, put-end-none, put-end-at, put-adds, put-sets}
-use Rattle.texts.specs.Literals.{literals-held}
 use Rattle.bounded.specs.Operations.{operated, flag}
 use Rattle.bounded.specs.Check.{slot-end}
 use Rattle.operands.specs.Operands.{operand-value, unpacked}
@@ -36,6 +35,7 @@ use Rattle.operands.proofs.Numbers.{number-none, number-some}
 use Rattle.operands.proofs.Laws.{operand-integer, operand-literal, operand-code, operand-self, operand-program}
 use Rattle.arith.specs.declared.Arithmetic.{Arithmetic}
 use Rattle.arith.specs.Arith.{outcome}
+use Rattle.program_equality.specs.Agreement.{constants-held}
 use Rattle.operators.specs.Operators.{operator-of, arithmetic-operated, compared}
 use Rattle.operators.proofs.Laws.{arithmetic-means, compared-means}
 use Rattle.operand_checks.proofs.Laws as ends-laws
@@ -97,21 +97,21 @@ module _ (p l h t : List ℕ) (k a b : ℕ) where
       operation-second e = rw (ne-eqb k 12 ne, ← er, ev, ← eq, e)
 
       module _ (w : Value) (ew : q ≡ Fetched.Found w) where
-        both : operation-given p l h t k a b ≡ of-product (operated (literals-held p l) (texts-held h t) (operator-of k) v w)
+        both : operation-given p l h t k a b ≡ of-product (operated (constants-held p l) (texts-held h t) (operator-of k) v w)
         unfolding operation-given operation-held defined M._>>=_
         both = rw (ne-eqb k 12 ne, ← er, ev, ← eq, ew)
 
         operation-integers : k < 12 → (o : Arithmetic) → outcome o ≡ arithmetic-operated k v w → (g : Given) → g ≡ of-product (outcome o) → g ≡ operation-given p l h t k a b
-        operation-integers lt o eo g eg = eg ∙ ap of-product (eo ∙ arithmetic-means (literals-held p l) (texts-held h t) k v w lt) ∙ sym both
+        operation-integers lt o eo g eg = eg ∙ ap of-product (eo ∙ arithmetic-means (constants-held p l) (texts-held h t) k v w lt) ∙ sym both
 
-        module _ (ge : 12 ≤ k) (c : Bool) (ec : c ≡ compared (literals-held p l) (texts-held h t) k v w) where
+        module _ (ge : 12 ≤ k) (c : Bool) (ec : c ≡ compared (constants-held p l) (texts-held h t) k v w) where
           operation-true : c ≡ true → Given.Value (Value.Int (pos 1)) ≡ operation-given p l h t k a b
           unfolding of-product flag
-          operation-true is = rw (both, ← (compared-means (literals-held p l) (texts-held h t) k v w ge ne), ← ec, is)
+          operation-true is = rw (both, ← (compared-means (constants-held p l) (texts-held h t) k v w ge ne), ← ec, is)
 
           operation-false : c ≡ false → Given.Value (Value.Int (pos 0)) ≡ operation-given p l h t k a b
           unfolding of-product flag
-          operation-false is = rw (both, ← (compared-means (literals-held p l) (texts-held h t) k v w ge ne), ← ec, is)
+          operation-false is = rw (both, ← (compared-means (constants-held p l) (texts-held h t) k v w ge ne), ← ec, is)
 
   -- the operands as numbers
   module _ (ne : k ≡ 12 → ⊥) (m : ℕ) (em : defined (fetched (unpacked m)) ≡ operand-value p h a) where
@@ -128,7 +128,7 @@ module _ (p l h t : List ℕ) (k a b : ℕ) where
         pub number-integers : k < 12 → (o : Arithmetic) → outcome o ≡ arithmetic-operated k v w → (g : Given) → g ≡ of-product (outcome o) → g ≡ operation-given p l h t k a b
         number-integers = operation-integers ne (Fetched.Found v) (number-some p h a m em some v ev) v refl (Fetched.Found w) (number-some p h b n en both w ew) w refl
 
-        module _ (ge : 12 ≤ k) (c : Bool) (ec : c ≡ compared (literals-held p l) (texts-held h t) k v w) where
+        module _ (ge : 12 ≤ k) (c : Bool) (ec : c ≡ compared (constants-held p l) (texts-held h t) k v w) where
           pub number-true : c ≡ true → Given.Value (Value.Int (pos 1)) ≡ operation-given p l h t k a b
           number-true = operation-true ne (Fetched.Found v) (number-some p h a m em some v ev) v refl (Fetched.Found w) (number-some p h b n en both w ew) w refl ge c ec
 

@@ -14,6 +14,7 @@ use borrow.Author.Tests.{eq-eqb, ne-eqb}
 use Rattle.words.specs.Words.{pick}
 use Rattle.framed.specs.declared.Value.{Value}
 use Rattle.framed.specs.Values.{Heap, truth, bit}
+use Rattle.framed.specs.Equality.{Constants}
 use Rattle.framed.specs.Common.{if_then_else_}
 use Rattle.framed.specs.Tokens.{Operator, in-range}
 use Rattle.framed.specs.Machine as M
@@ -26,13 +27,13 @@ use Rattle.trees.specs.Trees.{expression-tree}
 use Rattle.trees.specs.Held.{expression-held, held}
 use Rattle.trees.proofs.Held.{one-level-held}
 use Rattle.heap.specs.Held.{texts-held, heap-held}
-use Rattle.texts.specs.Literals.{literals-held}
 use Rattle.bounded.specs.Operations.{Product, number, text, ranged, flag, operated}
 use Rattle.bounded.specs.Check.{end-of, operation-result}
 use Rattle.bounded.specs.Bounded.{value-given, produce}
 use Rattle.bounded.proofs.Operations.{keep, operate-is}
 use Rattle.bounded.proofs.UnboundedRuns.{Within, within-bind, operate-within}
 use Rattle.operands.specs.Operands.{operand-value}
+use Rattle.program_equality.specs.Agreement.{constants-held}
 use Rattle.operators.specs.Operators.{arithmetic-of, operator-of}
 use Rattle.checking.specs.Checking.{ChecksExpression, operation-end, expression-end, single-end}
 use Rattle.checking.proofs.Laws.{single-is}
@@ -47,9 +48,9 @@ use Rattle.step_assign.specs.Assign.{of-base, of-not, of-product, operat
 
 -- ---- An end is 31 to 35
 
-operated-within : (ls made : List (List ℕ)) (o : Operator) (v w : Value) → Within (operated ls made o v w)
+operated-within : (cs : Constants) (made : List (List ℕ)) (o : Operator) (v w : Value) → Within (operated cs made o v w)
 unfolding keep
-operated-within ls made o v w = go (operated ls made o v w) (subst Within (operate-is ls o v w none) (operate-within ls o v w none))
+operated-within cs made o v w = go (operated cs made o v w) (subst Within (operate-is cs o v w none) (operate-within cs o v w none))
   where
     none : Heap
     none = record { frames = []; texts = made }
@@ -62,7 +63,7 @@ operation-within : (p l h t : List ℕ) (k a b : ℕ) → Within (operation-held
 unfolding operation-held
 operation-within p l h t k a b =
     within-bind (operand-value p h a) _ (operand-within p h a) (λ v.
-    within-bind (operand-value p h b) _ (operand-within p h b) (λ w. operated-within (literals-held p l) (texts-held h t) (operator-of k) v w))
+    within-bind (operand-value p h b) _ (operand-within p h b) (λ w. operated-within (constants-held p l) (texts-held h t) (operator-of k) v w))
 
 -- ---- Only kind 12 makes a text
 
@@ -112,22 +113,22 @@ unfolding flag
 flag-no-text true = tt
 flag-no-text false = tt
 
-operated-no-text : (ls made : List (List ℕ)) (o : Operator) (v w : Value) → is-join o ≡ 0 → NoText (operated ls made o v w)
+operated-no-text : (cs : Constants) (made : List (List ℕ)) (o : Operator) (v w : Value) → is-join o ≡ 0 → NoText (operated cs made o v w)
 unfolding operated is-join
-operated-no-text ls made Operator.plus v w e = no-text-two v w _ (λ y z. ranged-no-text (y +ℤ z))
-operated-no-text ls made Operator.minus v w e = no-text-two v w _ (λ y z. ranged-no-text (y -ℤ z))
-operated-no-text ls made Operator.times v w e = no-text-two v w _ (λ y z. ranged-no-text (y *ℤ z))
-operated-no-text ls made Operator.over v w e = no-text-two v w _ (λ y z. no-text-bind (quotient y z) _ (λ q. ranged-no-text q))
-operated-no-text ls made Operator.less v w e = no-text-two v w _ (λ y z. flag-no-text (ltZ y z))
-operated-no-text ls made Operator.join v w e = absurd (omega arith)
-operated-no-text ls made Operator.equal v w e = flag-no-text _
-operated-no-text ls made Operator.and v w e = flag-no-text _
-operated-no-text ls made Operator.or v w e = flag-no-text _
+operated-no-text cs made Operator.plus v w e = no-text-two v w _ (λ y z. ranged-no-text (y +ℤ z))
+operated-no-text cs made Operator.minus v w e = no-text-two v w _ (λ y z. ranged-no-text (y -ℤ z))
+operated-no-text cs made Operator.times v w e = no-text-two v w _ (λ y z. ranged-no-text (y *ℤ z))
+operated-no-text cs made Operator.over v w e = no-text-two v w _ (λ y z. no-text-bind (quotient y z) _ (λ q. ranged-no-text q))
+operated-no-text cs made Operator.less v w e = no-text-two v w _ (λ y z. flag-no-text (ltZ y z))
+operated-no-text cs made Operator.join v w e = absurd (omega arith)
+operated-no-text cs made Operator.equal v w e = flag-no-text _
+operated-no-text cs made Operator.and v w e = flag-no-text _
+operated-no-text cs made Operator.or v w e = flag-no-text _
 
 operation-no-text : (p l h t : List ℕ) (k a b : ℕ) → (k ≡ 12 → ⊥) → NoText (operation-held p l h t k a b)
 unfolding operation-held
 operation-no-text p l h t k a b ne =
-    no-text-bind (operand-value p h a) _ (λ v. no-text-bind (operand-value p h b) _ (λ w. operated-no-text (literals-held p l) (texts-held h t) (operator-of k) v w (no-join k ne)))
+    no-text-bind (operand-value p h a) _ (λ v. no-text-bind (operand-value p h b) _ (λ w. operated-no-text (constants-held p l) (texts-held h t) (operator-of k) v w (no-join k ne)))
 
 -- ---- By the entry
 

@@ -12,8 +12,8 @@ ghost use Prim.Native.Nat.{_<_};
 ghost use Rattle.framed.specs.Machine.{defined};
 ghost use Rattle.tables.specs.Fields.{instruction-a, instruction-b, instruction-c};
 ghost use Rattle.paths.specs.Paths.{fetched};
-ghost use Rattle.texts.specs.Texts.{Readable};
 ghost use Rattle.arith.specs.Arith.{outcome};
+ghost use Rattle.operators.specs.Operators.{Comparable};
 ghost use Rattle.operands.specs.Operands.{operand-value};
 ghost use Rattle.commit.specs.Commit.{root-of, set-root, assignment};
 ghost use Rattle.commit.specs.Direct.{CanDoEntry, Does};
@@ -61,7 +61,7 @@ fn from_arithmetic(a: Arithmetic) -> Given
 
 // The operator of the kind between two bases; `#` makes a text.
 fn operation<'a>(p: &[u32], l: &'a [u8], h: &[u32], t: &'a [u8], kind: u32, a: u32, b: u32) -> Given
-    requires { ⌜ Readable (now p) (now l) (now h) (now t) ⌝ }
+    requires { ⌜ Comparable (now p) (now l) (now h) (now t) ⌝ }
     ensures { λ r. ⌜ r ≡ operation-given (now (p .entry)) (now (l .entry)) (now (h .entry)) (now (t .entry)) kind a b ⌝ }
 {
     if kind == 12 {
@@ -86,7 +86,7 @@ fn operation<'a>(p: &[u32], l: &'a [u8], h: &[u32], t: &'a [u8], kind: u32, a: u
 
 // The value of expression x.
 fn expression<'a>(p: &[u32], l: &'a [u8], h: &[u32], t: &'a [u8], x: u32) -> Given
-    requires { ⌜ Readable (now p) (now l) (now h) (now t) ⌝ }
+    requires { ⌜ Comparable (now p) (now l) (now h) (now t) ⌝ }
     ensures { λ r. ⌜ r ≡ expression-given (now (p .entry)) (now (l .entry)) (now (h .entry)) (now (t .entry)) x ⌝ }
 {
     let e = tables::expression_at(p, x);

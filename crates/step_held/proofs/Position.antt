@@ -26,7 +26,7 @@ use Rattle.word_store.specs.Store.{Memories, word-store}
 use Rattle.word_store.specs.State.{store-held, state-held}
 use Rattle.commit.specs.Commit.{state-of, code-place, place-to, jump-place, position-by, position-after}
 use Rattle.evaluation.proofs.Stores.{frames-are}
-use Rattle.commit.proofs.Places.{code-at, place-small, after-small}
+use Rattle.places.proofs.Codes.{code-at, place-small, after-small}
 
 module _ (p l h t : List ℕ) (w : WellFormed p l) where
   abbrev now : Bounded Memories

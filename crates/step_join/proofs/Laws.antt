@@ -1,5 +1,5 @@
 -- `:=` of a join, after reserve: the end that it meets, and that the join put at the path is what commit does. Assumes nothing.
-use Prim.Native.Nat.{ℕ, zero, suc, _+_, _/_, _%_, _≤_, _<_}
+use Prim.Native.Nat.{ℕ, _+_, _/_, _%_, _≤_, _<_}
 use mathlib.Core.Path.{_≡_, refl, _∙_, ap, sym}
 use mathlib.Core.Bool.{Bool, true, false, true≢false}
 use mathlib.Core.List.{List, [], _∷_}
@@ -31,16 +31,15 @@ use Rattle.texts.specs.Literals.{literals-held}
 use Rattle.texts.specs.Texts.{Readable}
 use Rattle.splice.specs.Splice.{splice}
 use Rattle.shown.specs.Shown.{shown-size}
-use Rattle.joining.specs.Joining.{join-end, join-result}
+use Rattle.joining.specs.Joining.{join-end}
 use Rattle.joining.proofs.Laws.{end-long, end-none, join-length, filled-front}
-use Rattle.joining.proofs.Meaning.{join-means, join-fits}
-use Rattle.bounded.specs.Operations.{operated}
-use Rattle.bounded.specs.Check.{end-of, slot-end, target-end}
+use Rattle.joining.proofs.Meaning.{join-fits}
+use Rattle.bounded.specs.Check.{slot-end, target-end}
 use Rattle.operands.specs.Operands.{operand-value, unpacked}
 use Rattle.operands.proofs.Numbers.{number-none, number-some}
 use Rattle.operators.specs.declared.Operated.{Operated}
 use Rattle.operators.specs.Operators.{operator-of, of-join}
-use Rattle.operators.proofs.Laws.{operates-join}
+use Rattle.operators.proofs.Laws.{operates-join, end-join}
 use Rattle.operand_checks.specs.OperandChecks.{put-end}
 use Rattle.operand_checks.proofs.Laws as ends-laws
 use Rattle.operand_checks.proofs.Laws.{put-empty}
@@ -122,16 +121,6 @@ module _ (p l h t : List ℕ) (i : ℕ) (can : CanAssignJoin p l h t i) where
   value-ended : (e : ℕ) → e ≡ operation-end p l h t 12 (expression-a p x) (expression-b p x) → (e ≡ 0 → ⊥) → JoinsOnce p l h t i e h t
   value-ended e ee ne = ended e (along .checked e (assign-met p l h t (root-of own h) (instruction-a p i) (instruction-b p i) x e (value-end e ee) ne)) ne
 
--- of `#` between two values
-module _ (p l h t : List ℕ) (v w : Value) (e : ℕ) (ee : e ≡ join-end p h v w) where
-  join-is : end-of (operated (literals-held p l) (texts-held h t) (operator-of 12) v w) ≡ e
-  unfolding operator-of end-of join-result
-  join-is = rw (join-means p l h t v w, ← ee) (go e)
-    where
-      go : (n : ℕ) → end-of (join-result n (join-bytes (literals-held p l) (texts-held h t) v w)) ≡ n
-      go zero = refl
-      go (suc n) = refl
-
 -- ---- assign_join
 
 module _ (p l h t : List ℕ) (i : ℕ) (can : CanAssignJoin p l h t i) (x : ℕ) (ex : x ≡ instruction-c p i) (a : ℕ) (ea : a ≡ expression-a p x)
@@ -178,7 +167,7 @@ module _ (p l h t : List ℕ) (i : ℕ) (v w : Value) (on : JoinsValues p l h t 
   unfolding defined
   met e ee =
       checking.operation-both p l h t 12 (expression-a p (instruction-c p i)) (expression-b p (instruction-c p i))
-      (Fetched.Found v) (on .first) v refl (Fetched.Found w) (on .second) w e refl (sym (join-is p l h t v w e ee))
+      (Fetched.Found v) (on .first) v refl (Fetched.Found w) (on .second) w e refl (end-join p l h t 12 v w (omega arith) (omega arith) e ee)
 
   values-ended : (e : ℕ) → e ≡ join-end p h v w → (e ≡ 0 → ⊥) → JoinsOnce p l h t i e h t
   values-ended e ee = value-ended p l h t i (on .can) e (met e ee)

@@ -11,7 +11,8 @@ use Rattle.heap.specs.Words.{set-self, set-position}
 use Rattle.paths.specs.declared.Fetched.{Fetched}
 use Rattle.paths.specs.Paths.{fetched}
 use Rattle.operands.specs.Operands.{operand-value}
-use Rattle.commit.specs.Commit.{first-place, CanJump, Jumps}
+use Rattle.places.specs.Places.{first-place}
+use Rattle.commit.specs.Commit.{CanJump, Jumps}
 use Rattle.commit.proofs.Laws.{jump-none, jump-no-code, jump-second, jump-both}
 use Rattle.step_jump.specs.Jump.{jump-end, JumpsOnce}
 use Rattle.step_jump.proofs.Ends as ends

@@ -22,7 +22,7 @@ pub fn jump(p: &[u32], l: &[u8], h: &mut [u32], a: u32, c: u32) -> u32
         return 31;
     };
     heap::set_self(h, w);
-    heap::set_position(h, commit::first_place(p, k));
+    heap::set_position(h, places::first_place(p, k));
     0
 }
 

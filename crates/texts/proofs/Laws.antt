@@ -19,7 +19,7 @@ use Rattle.arith.specs.Arith.{nonzero}
 use Rattle.words.specs.Words.{pick, word}
 use Rattle.framed.specs.Common.{same}
 use Rattle.framed.specs.declared.Text.{Text}
-use Rattle.framed.specs.Values.{text-bytes, same-integer, equal-values, truth}
+use Rattle.framed.specs.Values.{text-bytes, truth}
 use Rattle.tables.specs.Fields.{literals, literal-length, literal-byte}
 use Rattle.heap.specs.Words.{text-length, text-byte}
 use Rattle.heap.specs.Lists.{listed}
@@ -27,7 +27,7 @@ use Rattle.heap.specs.Held.{text-held, texts-held}
 use Rattle.heap.proofs.Lists.{listed-length, listed-at, listed-past}
 use Rattle.heap.proofs.Held.{text-at}
 use Rattle.texts.specs.Literals.{literal-held, literals-held}
-use Rattle.texts.specs.Texts.{part-of, Inside, LiteralsInside, TextsInside, text-size, same-texts}
+use Rattle.texts.specs.Texts.{part-of, Inside, LiteralsInside, TextsInside, text-size, same-literal-bytes, same-texts}
 
 -- ---- Parts
 
@@ -169,71 +169,15 @@ module _ (a b : List ℕ) (i : ℕ) (c : Comparing a b i) where
     pub comparing-again : getD a i 0 ≡ getD b i 0 → Comparing a b (i + 1)
     comparing-again e = record { inside = omega arith; lengths = c .lengths; rest = rw (eq-eqb (getD a i 0) (getD b i 0) e) at turn }
 
--- ---- same_texts, equal_values, truth
+-- ---- same_literal_bytes, same_texts, truth
+
+pub literals-compared : (lits : List (List ℕ)) (k m : ℕ) (a b : List ℕ) (r : Bool) → r ≡ same a b → a ≡ getD lits k [] → b ≡ getD lits m [] → r ≡ same-literal-bytes lits k m
+unfolding same-literal-bytes
+literals-compared lits k m a b r e ea eb = rw (e, ea, eb)
 
 pub texts-compared : (lits made : List (List ℕ)) (x y : Text) (a b : List ℕ) (r : Bool) → r ≡ same a b → a ≡ text-bytes lits made x → b ≡ text-bytes lits made y → r ≡ same-texts lits made x y
 unfolding same-texts
 texts-compared lits made x y a b r e ea eb = rw (e, ea, eb)
-
-module _ (lits made : List (List ℕ)) (v w : Value) where
-  module _ (y : ℤ) (ev : v ≡ Value.Int y) where
-    pub int-else : OneOf (1 ∷ 2 ∷ 3 ∷ []) (tagOf the-type w) → false ≡ equal-values lits made v w
-    unfolding equal-values
-    int-else o = rw ev (go w o)
-      where
-        go : (u : Value) → OneOf (1 ∷ 2 ∷ 3 ∷ []) (tagOf the-type u) → false ≡ equal-values lits made (Value.Int y) u
-        go (Value.Int z) k = absurd (miss (1 ∷ 2 ∷ 3 ∷ []) 0 tt k)
-        go (Value.Text u) k = refl
-        go (Value.Code m) k = refl
-        go (Value.Frame m) k = refl
-
-    pub int-same : (z a b : ℤ) (r : Bool) → w ≡ Value.Int z → r ≡ same-integer a b → a ≡ y → b ≡ z → r ≡ equal-values lits made v w
-    unfolding equal-values
-    int-same z a b r ew e ea eb = rw (ev, ew, e, ea, eb)
-
-  module _ (x : Text) (ev : v ≡ Value.Text x) where
-    pub text-else : OneOf (0 ∷ 2 ∷ 3 ∷ []) (tagOf the-type w) → false ≡ equal-values lits made v w
-    unfolding equal-values
-    text-else o = rw ev (go w o)
-      where
-        go : (u : Value) → OneOf (0 ∷ 2 ∷ 3 ∷ []) (tagOf the-type u) → false ≡ equal-values lits made (Value.Text x) u
-        go (Value.Int z) k = refl
-        go (Value.Text u) k = absurd (miss (0 ∷ 2 ∷ 3 ∷ []) 1 tt k)
-        go (Value.Code m) k = refl
-        go (Value.Frame m) k = refl
-
-    pub text-same : (y : Text) (r : Bool) → w ≡ Value.Text y → r ≡ same-texts lits made x y → r ≡ equal-values lits made v w
-    unfolding same-texts equal-values
-    text-same y r ew e = rw (ev, ew, e)
-
-  module _ (n : ℕ) where
-    pub code-else : v ≡ Value.Code n → OneOf (0 ∷ 1 ∷ 3 ∷ []) (tagOf the-type w) → false ≡ equal-values lits made v w
-    unfolding equal-values
-    code-else ev o = rw ev (go w o)
-      where
-        go : (u : Value) → OneOf (0 ∷ 1 ∷ 3 ∷ []) (tagOf the-type u) → false ≡ equal-values lits made (Value.Code n) u
-        go (Value.Int z) k = refl
-        go (Value.Text u) k = refl
-        go (Value.Code m) k = absurd (miss (0 ∷ 1 ∷ 3 ∷ []) 2 tt k)
-        go (Value.Frame m) k = refl
-
-    pub code-same : (m : ℕ) → v ≡ Value.Code n → w ≡ Value.Code m → eqb n m ≡ equal-values lits made v w
-    unfolding equal-values
-    code-same m ev ew = rw (ev, ew)
-
-    pub frame-else : v ≡ Value.Frame n → OneOf (0 ∷ 1 ∷ 2 ∷ []) (tagOf the-type w) → false ≡ equal-values lits made v w
-    unfolding equal-values
-    frame-else ev o = rw ev (go w o)
-      where
-        go : (u : Value) → OneOf (0 ∷ 1 ∷ 2 ∷ []) (tagOf the-type u) → false ≡ equal-values lits made (Value.Frame n) u
-        go (Value.Int z) k = refl
-        go (Value.Text u) k = refl
-        go (Value.Code m) k = refl
-        go (Value.Frame m) k = absurd (miss (0 ∷ 1 ∷ 2 ∷ []) 3 tt k)
-
-    pub frame-same : (m : ℕ) → v ≡ Value.Frame n → w ≡ Value.Frame m → eqb n m ≡ equal-values lits made v w
-    unfolding equal-values
-    frame-same m ev ew = rw (ev, ew)
 
 pub truth-else : (v : Value) → OneOf (1 ∷ 2 ∷ 3 ∷ []) (tagOf the-type v) → true ≡ truth v
 unfolding truth

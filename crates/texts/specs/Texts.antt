@@ -1,9 +1,9 @@
 -- Document 01, "Whole memories" (here: well-formed): the part that reading a text asks for, which well-formed memories have; equal bytes of texts. Assumes nothing.
 use Prim.Native.Nat.{ℕ, _+_, _*_, _≤_, _<_}
-use mathlib.Core.List.{List}
+use mathlib.Core.List.{List, []}
 use mathlib.Core.Bool.{Bool}
 use lib.Dec.{ltb}
-use lib.ListN.{length, take, drop}
+use lib.ListN.{length, getD, take, drop}
 use Rattle.words.specs.Words.{pick}
 use Rattle.framed.specs.Common.{same}
 use Rattle.framed.specs.declared.Text.{Text}
@@ -33,6 +33,10 @@ pub record Readable (p l h t : List ℕ) : Type 0 where
 unfoldable pub text-size : List ℕ → List ℕ → Text → ℕ
 text-size p h (Text.Literal k) = pick (ltb k (literals p)) (literal-length p k) 0
 text-size p h (Text.Made k) = pick (ltb k 256) (text-length h k) 0
+
+-- literals k and m have equal bytes
+unfoldable pub same-literal-bytes : List (List ℕ) → ℕ → ℕ → Bool
+same-literal-bytes lits k m = same (getD lits k []) (getD lits m [])
 
 -- two texts of equal bytes
 unfoldable pub same-texts : List (List ℕ) → List (List ℕ) → Text → Text → Bool

@@ -1,14 +1,14 @@
-// The bytes of a text as a part of the literal bytes or of the text bytes; equality of values and truth.
+// The bytes of a text as a part of the literal bytes or of the text bytes; equality of texts, and truth.
 use framed::Text;
 use framed::Value;
 ghost use mathlib.Core.Path.{_≡_};
 ghost use mathlib.Core.List.{[]};
 ghost use lib.ListN.{getD};
 ghost use Rattle.framed.specs.Common.{same};
-ghost use Rattle.framed.specs.Values.{text-bytes, equal-values, truth};
+ghost use Rattle.framed.specs.Values.{text-bytes, truth};
 ghost use Rattle.heap.specs.Held.{texts-held};
 ghost use Rattle.texts.specs.Literals.{literals-held};
-ghost use Rattle.texts.specs.Texts.{part-of, Inside, Readable, LiteralsInside, TextsInside, text-size, same-texts};
+ghost use Rattle.texts.specs.Texts.{part-of, Inside, Readable, LiteralsInside, TextsInside, text-size, same-literal-bytes, same-texts};
 
 // The n bytes of a memory from a place on.
 fn part<'a>(m: &'a [u8], from: usize, n: usize) -> &'a [u8]
@@ -90,45 +90,20 @@ fn same_bytes(a: &[u8], b: &[u8]) -> bool
     true
 }
 
+// Literals k and m have equal bytes.
+pub fn same_literal_bytes(p: &[u32], l: &[u8], k: u32, m: u32) -> bool
+    requires { ⌜ LiteralsInside (now p) (now l) ⌝ }
+    ensures { λ r. ⌜ r ≡ same-literal-bytes (literals-held (now (p .entry)) (now (l .entry))) k m ⌝ }
+{
+    same_bytes(literal_bytes(p, l, k), literal_bytes(p, l, m))
+}
+
 // `==` of two texts: their bytes.
-fn same_texts<'a>(p: &[u32], l: &'a [u8], h: &[u32], t: &'a [u8], x: Text, y: Text) -> bool
+pub fn same_texts<'a>(p: &[u32], l: &'a [u8], h: &[u32], t: &'a [u8], x: Text, y: Text) -> bool
     requires { ⌜ Readable (now p) (now l) (now h) (now t) ⌝ }
     ensures { λ r. ⌜ r ≡ same-texts (literals-held (now (p .entry)) (now (l .entry))) (texts-held (now (h .entry)) (now (t .entry))) x y ⌝ }
 {
     same_bytes(text_bytes(p, l, h, t, x), text_bytes(p, l, h, t, y))
-}
-
-// `==`
-pub fn equal_values<'a>(p: &[u32], l: &'a [u8], h: &[u32], t: &'a [u8], v: Value, w: Value) -> bool
-    requires { ⌜ Readable (now p) (now l) (now h) (now t) ⌝ }
-    ensures { λ r. ⌜ r ≡ equal-values (literals-held (now (p .entry)) (now (l .entry))) (texts-held (now (h .entry)) (now (t .entry))) v w ⌝ }
-{
-    match v {
-        Value::Int(y) => {
-            let Value::Int(z) = w else {
-                return false;
-            };
-            arith::same(y, z)
-        }
-        Value::Text(x) => {
-            let Value::Text(y) = w else {
-                return false;
-            };
-            same_texts(p, l, h, t, x, y)
-        }
-        Value::Code(k) => {
-            let Value::Code(m) = w else {
-                return false;
-            };
-            k == m
-        }
-        Value::Frame(f) => {
-            let Value::Frame(g) = w else {
-                return false;
-            };
-            f == g
-        }
-    }
 }
 
 // All but integer 0 are true.

@@ -25,12 +25,13 @@ use Rattle.program_form.specs.Sound.{SlotPlace}
 use Rattle.trees.specs.Trees.{base-tree, expression-tree, no-base, operator-of, path-list}
 use Rattle.trees.specs.Held.{base-held, expression-held, slots-held, instruction-held, remaining, held}
 use Rattle.trees.proofs.Held as tree
+use Rattle.places.specs.Places.{CodePlace}
 use Rattle.places.proofs.Laws as places
 use Rattle.program_weights.specs.Weight.{base-weight, expression-weight, slots-weight, instruction-weight, code-weight}
 use Rattle.write_words.specs.Appending.{CanAppend, Appended}
 use Rattle.write_words.specs.Words.{integer-text, string-text, operator-text, self-path-text, program-path-text, AtLiteral, AtPath}
 use Rattle.write_words.proofs.Laws.{can-append, appended-then, appended-past}
-use Rattle.write_program.specs.Text.{base-led, expression-led, instruction-led, base-text, expression-text, slots-text, instruction-text, code-text, CanWrite, CodePlace}
+use Rattle.write_program.specs.Text.{base-led, expression-led, instruction-led, base-text, expression-text, slots-text, instruction-text, code-text, CanWrite}
 use Rattle.write_program.proofs.Forms.{code-open, curly-close, frame-open, square-close, assign, show, jump, ifeq, other-base, other-expression}
 use Rattle.write_program.proofs.Forms.{code-form, zero-form, frame-form, not-form, operation-form, assign-form, show-form, jump-form, ifeq-form}
 

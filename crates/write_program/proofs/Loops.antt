@@ -17,12 +17,13 @@ use Rattle.program_form.specs.Sound.{SlotPlace}
 use Rattle.program_form.proofs.Decides.{sound}
 use Rattle.trees.specs.Held.{expression-held, slots-held, instruction-held, remaining}
 use Rattle.trees.proofs.Held as tree
+use Rattle.places.specs.Places.{CodePlace}
 use Rattle.places.proofs.Laws as places
 use Rattle.program_weights.specs.Weight.{base-weight, expression-weight, slots-weight, instruction-weight, code-weight}
 use Rattle.write_words.specs.Appending.{CanAppend, Appended}
 use Rattle.write_words.specs.Words.{name-table, AtName}
 use Rattle.write_words.proofs.Laws.{can-append, appended-past, Grown, grown-none, grown-then}
-use Rattle.write_program.specs.Text.{code-led, expression-text, slots-text, instruction-text, code-text, lead-text, head-text, CanWrite, CodePlace}
+use Rattle.write_program.specs.Text.{code-led, expression-text, slots-text, instruction-text, code-text, lead-text, head-text, CanWrite}
 use Rattle.write_program.proofs.Forms.{assign, semicolon, then-form, listed, listed-first, listed-none, listed-form, head-form}
 use Rattle.write_program.proofs.Laws.{appended-as, appended-two, appended-three}
 

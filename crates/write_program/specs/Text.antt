@@ -4,7 +4,7 @@ use mathlib.Core.Path.{_≡_}
 use mathlib.Core.Logic.{_≢_}
 use mathlib.Core.Bool.{Bool}
 use mathlib.Core.List.{List, [], _∷_, _++_}
-use Prim.Native.Nat.{ℕ, suc, _≤_, _<_}
+use Prim.Native.Nat.{ℕ, _≤_, _<_}
 use lib.ListN.{length, getD, take}
 use Rattle.framed.specs.Common.{bytes}
 use Rattle.framed.specs.Tokens.{Token, Fixed}
@@ -12,7 +12,7 @@ use Rattle.framed.specs.Tree.{Base, Expression, Slots, Instruction, Code}
 use Rattle.framed.specs.Paths.{Place, outside-code, within-slot, Path}
 use Rattle.framed.specs.Writer.{one, mark, led, base-words, expression-words, slots-words, instruction-words, code-words}
 use Rattle.words.specs.Words.{pick}
-use Rattle.tables.specs.Fields.{expressions, instructions, slot-name}
+use Rattle.tables.specs.Fields.{expressions, slot-name}
 use Rattle.program_form.specs.WellFormed.{WellFormed}
 use Rattle.program_form.specs.Sound.{SlotPlace}
 use Rattle.trees.specs.Held.{base-held, expression-held, slots-held, instruction-held, remaining, program-held}
@@ -70,10 +70,6 @@ head-text p first y = led (pick first [] (mark Fixed.comma ∷ []) ++ (one (Toke
 pub record CanWrite (p l m : List ℕ) (limit at : ℕ) : Type 0 where
   pub program : WellFormed p l
   pub can : CanAppend m limit at
-
--- a place in a code: an instruction, or the end
-pub record CodePlace (p : List ℕ) (z : ℕ) : Type 0 where
-  pub there : (i : ℕ) → z ≡ suc i → i < instructions p
 
 -- Outside code: the first d numbers of g are the names of the holding frame. The frames around an expression have smaller numbers, so 1024 names are enough
 pub record OutsideSlot (p g : List ℕ) (d y : ℕ) : Type 0 where

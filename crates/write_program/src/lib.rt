@@ -15,11 +15,12 @@ ghost use Rattle.framed.specs.Paths.{in-code, outside-code};
 ghost use Rattle.framed.specs.Writer.{text};
 ghost use Rattle.tables.specs.Fields.{expressions, instructions, slot-name};
 ghost use Rattle.program_form.specs.Sound.{SlotPlace};
+ghost use Rattle.places.specs.Places.{CodePlace};
 ghost use Rattle.trees.specs.Held.{program-held};
 ghost use Rattle.write_words.specs.Appending.{CanAppend, Appended};
 ghost use Rattle.write_words.specs.Words.{AtName};
 ghost use Rattle.write_program.specs.Text.{base-text, expression-text, slots-text, instruction-text, code-text, outside-text, lead-text, head-text};
-ghost use Rattle.write_program.specs.Text.{CanWrite, CodePlace, OutsideSlot, OutsideSlots, OutsideAppended};
+ghost use Rattle.write_program.specs.Text.{CanWrite, OutsideSlot, OutsideSlots, OutsideAppended};
 
 // In code: `holding` are the names of the holding frame.
 

@@ -137,6 +137,31 @@ const LIST: &str = "frame: [ Main := frame: [
   start := code { self.list := 0; jump ^.loop self; },
   loop := code { self.list := frame: [ next := self.list ]; jump ^.loop self; } ] ]";
 
+/// Two equal blocks of 20 instructions in two frames, compared in two steps.
+fn equal_blocks() -> String {
+    let block = "self.n := self.n + 1; self.t := \"n = \" # self.n; show self.t; ifeq self.n ^.^.Main.end self;
+      self.list := frame: [ next := self.list, n := self.n ]; "
+        .repeat(4);
+    format!(
+        "frame: [ other := frame: [ block := code {{ {block}}} ], Main := frame: [
+          start := code {{ jump ^.loop self; }},
+          loop := code {{ self.same := ^.block == ^.^.other.block; jump ^.loop self; }},
+          block := code {{ {block}}},
+          end := code {{}} ] ]"
+    )
+}
+
+/// Two equal codes that fill the tables, compared in two steps. In 16,362 bytes there are 498 instructions, 1,003
+/// expressions, 127 codes, 124 literals of 64 bytes and 1,868 names of paths.
+fn equal_full_codes() -> String {
+    let (text, frame) = ("x".repeat(64), "^.n:=frame:[n:=^];");
+    let code = format!("jump\"{text}\"code{{}};{}", frame.repeat(3)).repeat(62);
+    format!(
+        "frame:[x:=frame:[n:=frame:[a:=code{{{code}}},b:=code{{{code}}}]],\
+         Main:=frame:[start:=code{{self:=^.^.x.n.a==^.^.x.n.b;jump^.start 0;}}]]"
+    )
+}
+
 /// Seconds for one step of an endless program.
 fn steps(calls: &Calls, source: &str, frames: u32) -> f64 {
     let fuel = 5_000;
@@ -180,6 +205,16 @@ const MEASURES: &[Measure] = &[
     Measure { name: "steps, shown counters", item: "step", seconds: |calls| steps(calls, SHOWS, 256) },
     Measure { name: "steps, joined and compared texts", item: "step", seconds: |calls| steps(calls, TEXTS, 256) },
     Measure { name: "steps, joined frames and codes", item: "step", seconds: |calls| steps(calls, MESSAGES, 256) },
+    Measure { name: "steps, compared codes", item: "step", seconds: |calls| steps(calls, &equal_blocks(), 256) },
+    Measure {
+        name: "compared codes, full tables",
+        item: "comparison",
+        seconds: |calls| {
+            let mut m = calls.loaded(&equal_full_codes(), 256);
+            let work = |m: &mut Memories| assert_eq!(calls.run(m, 2 * 1_000, &mut []).stop, Stop::Fuel);
+            time_after(&mut m, |_| (), work) / 1_000.0
+        },
+    },
     Measure {
         name: "frames made, no collection",
         item: "frame",

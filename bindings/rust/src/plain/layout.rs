@@ -109,3 +109,22 @@ pub const JOIN: u32 = expression_kind::OPERATORS + Operator::Join as u32;
 pub fn entry(program: &Program, at: usize) -> [u32; 5] {
     [program[at], program[at + 1], program[at + 2], program[at + 3], program[at + 4]]
 }
+
+/// The place that a link of an entry leads to: 0 for none, else 1 + the number of another entry.
+pub fn after(entry: u32, distance: u32) -> u32 {
+    if distance == 0 {
+        0
+    } else {
+        1 + entry + distance
+    }
+}
+
+/// The names of a path.
+pub fn path(program: &Program, first: u32, count: u32) -> &[u32] {
+    &program[path_name(first)..][..count as usize]
+}
+
+/// The bytes of literal k.
+pub fn literal<'a>(program: &Program, literals: &'a Literals, k: u32) -> &'a [u8] {
+    &literals[text(k)..][..program[literal_length(k)] as usize]
+}

@@ -8,6 +8,7 @@
 #![forbid(unsafe_code)]
 
 pub(crate) mod collect;
+mod equality;
 mod framerun;
 pub(crate) mod heap;
 pub(crate) mod layout;

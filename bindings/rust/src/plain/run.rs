@@ -1,5 +1,6 @@
 //! The machine over whole memories: a step, and the run that makes steps.
 use super::collect;
+use super::equality::same_codes;
 use super::heap::{self, Heap, Value};
 use super::layout::{self, entry, expression_kind, instruction_kind, Literals, Program, Texts};
 use super::token::{Operator, STRING_BYTES};
@@ -191,7 +192,7 @@ impl<'a> Machine<'a> {
     }
 
     fn path(&self, first: u32, count: u32) -> &'a [u32] {
-        &self.program[layout::path_name(first)..][..count as usize]
+        layout::path(self.program, first, count)
     }
 
     /// The value of an expression that is an integer, a literal, a path or a code.
@@ -241,6 +242,9 @@ impl<'a> Machine<'a> {
     }
 
     fn equal(&self, v: Value, w: Value) -> bool {
+        if let (Value::Code(k), Value::Code(m)) = (v, w) {
+            return same_codes(self.program, self.literals, k, m);
+        }
         match (self.text(v), self.text(w)) {
             (Some(a), Some(b)) => a == b,
             _ => v == w,
@@ -250,10 +254,7 @@ impl<'a> Machine<'a> {
     /// The bytes of a text.
     fn text(&self, value: Value) -> Option<&[u8]> {
         match value {
-            Value::Literal(k) => {
-                let length = self.program[layout::literal_length(k)] as usize;
-                Some(&self.literals[layout::text(k)..][..length])
-            }
+            Value::Literal(k) => Some(layout::literal(self.program, self.literals, k)),
             Value::Made(k) => {
                 let length = self.heap[heap::text(k)] as usize - 1;
                 Some(&self.texts[layout::text(k)..][..length])
@@ -298,10 +299,7 @@ impl<'a> Machine<'a> {
                 self.texts.copy_within(layout::text(k)..layout::text(k) + length, at);
                 return length;
             }
-            Value::Literal(k) => {
-                let length = self.program[layout::literal_length(k)] as usize;
-                &self.literals[layout::text(k)..][..length]
-            }
+            Value::Literal(k) => layout::literal(self.program, self.literals, k),
             Value::Frame(_) => FRAME_WORD,
             Value::Code(_) => CODE_WORD,
         };

@@ -2,7 +2,7 @@
 //!
 //! A word is a token, or all tokens of a path. One space stands between neighbouring words and none inside one, so that
 //! every word but the first is put with a space before it.
-use super::layout::{self, entry, expression_kind, instruction_kind, Literals, Program};
+use super::layout::{self, after, entry, expression_kind, instruction_kind, Literals, Program};
 use super::run::{decimal, DECIMAL_BYTES};
 use super::{whole, NOT_WHOLE};
 use crate::{Refusal, SOURCE_BYTES};
@@ -175,9 +175,8 @@ impl<'a, S: Sink> Writer<'a, S> {
                 self.sink.put(decimal(a as i32, &mut [0; DECIMAL_BYTES]))
             }
             expression_kind::LITERAL => {
-                let length = self.program[layout::literal_length(a)] as usize;
                 self.sink.put(b" \"")?;
-                self.sink.put(&self.literals[layout::text(a)..][..length])?;
+                self.sink.put(layout::literal(self.program, self.literals, a))?;
                 self.sink.put(b"\"")
             }
             expression_kind::CODE => self.code(self.program[layout::code(a)]),
@@ -244,7 +243,7 @@ impl<'a, S: Sink> Writer<'a, S> {
     }
 
     fn path(&self, first: u32, count: u32) -> &'a [u32] {
-        &self.program[layout::path_name(first)..][..count as usize]
+        layout::path(self.program, first, count)
     }
 
     fn names(&mut self, names: &[u32]) -> Result<(), Refusal> {
@@ -258,14 +257,5 @@ impl<'a, S: Sink> Writer<'a, S> {
         let at = layout::name(k);
         let length = self.program[at] as usize;
         self.sink.put_words(&self.program[at + 1..][..length])
-    }
-}
-
-/// The place that a link of an entry leads to: 0 for none, else 1 + the number of another entry.
-fn after(entry: u32, distance: u32) -> u32 {
-    if distance == 0 {
-        0
-    } else {
-        1 + entry + distance
     }
 }

@@ -2,9 +2,14 @@
 //! test, so that every run tries the same inputs. FRAMED_ROUNDS sets how many.
 #![allow(dead_code)]
 
+pub mod blocks;
+
 use framed::{plain, Memories};
 use std::fs;
 use std::path::{Path, PathBuf};
+use std::sync::mpsc;
+use std::thread;
+use std::time::Duration;
 
 /// The top of the repository.
 pub fn top() -> PathBuf {
@@ -55,6 +60,19 @@ pub fn check_beside(folder: &Path, extension: &str, print: impl Fn(&[u8]) -> Vec
 
 pub fn rounds(usual: u64) -> u64 {
     std::env::var("FRAMED_ROUNDS").ok().and_then(|n| n.parse().ok()).unwrap_or(usual)
+}
+
+/// Gives up where something takes longer than this.
+pub fn within<T: Send + 'static>(limit: Duration, work: impl FnOnce() -> T + Send + 'static) -> T {
+    let (sender, receiver) = mpsc::channel();
+    let worker = thread::spawn(move || sender.send(work()).unwrap());
+    match receiver.recv_timeout(limit) {
+        Ok(done) => done,
+        Err(mpsc::RecvTimeoutError::Timeout) => panic!("no answer in {limit:?}"),
+        Err(mpsc::RecvTimeoutError::Disconnected) => {
+            std::panic::resume_unwind(worker.join().expect_err("a worker that did not answer"))
+        }
+    }
 }
 
 /// SplitMix64.
@@ -519,6 +537,19 @@ impl Built {
         k
     }
 
+    /// One more instruction behind the last, in the same code.
+    pub fn more(&mut self, [kind, a, b, c]: [u32; 4]) {
+        let i = self.entry(5);
+        let at = 4_544 + 5 * i as usize;
+        self.words(at, &[kind, a, b, c, 0]);
+        self.words(at - 1, &[1]);
+    }
+
+    /// Makes an expression hold a code that was added after it.
+    pub fn hold(&mut self, x: u32, code: u32) {
+        self.words(7_104 + 5 * x as usize, &[4, code]);
+    }
+
     /// The number that the next expression has.
     pub fn next(&self) -> u32 {
         self.0.program[4]
@@ -556,4 +587,48 @@ pub fn deep(outside: u32, codes: u32, inside: u32) -> Memories {
     let literal = built.literal(&[b'x'; 64]);
     built.expression([1, literal, 0, 0, 0]);
     built.whole(1)
+}
+
+/// `self := ^ == self` as code 0, in so many frames, each in the one slot of the one around it. The codes that are compared
+/// are to be added.
+pub fn comparing(frames: u32) -> Built {
+    let mut built = Built::new();
+    let a = built.name(b"a");
+    built.expression([4, 0, 0, a, 0]);
+    built.code([0, 0, 0, 1]);
+    for _ in 0..frames {
+        built.expression([5, 1, 0, a, 0]);
+    }
+    let equal = built.next();
+    built.expression([13, equal + 1, equal + 2, a, 0]);
+    built.path(3, &[]);
+    built.path(2, &[]);
+    built
+}
+
+/// Makes these the codes that are compared, by the next step.
+pub fn compare_next(m: &mut Memories, k: u32, l: u32) {
+    // self, program, position, end mark
+    m.heap[..6].copy_from_slice(&[3, l, 3, k, 1, 0]);
+}
+
+/// Adds codes in frames in codes: each assigns so many frames, each in the one slot of the one around it, and innermost
+/// stands the next code, by itself or as both operands of an operation; in the last code it is this integer. Gives the first.
+pub fn code_chain(built: &mut Built, codes: u32, frames: u32, doubled: bool, integer: u32) -> u32 {
+    let first = built.0.program[6];
+    let mut x = built.expression([0; 5]);
+    for _ in 0..codes {
+        let assigned = built.next();
+        let code = built.code([0, 0, 0, assigned]);
+        built.hold(x, code);
+        for _ in 0..frames {
+            built.expression([5, 1, 0, 0, 0]);
+        }
+        if doubled {
+            let operand = built.next() + 1;
+            built.expression([13, operand, operand, 0, 0]);
+        }
+        x = built.expression([0, integer, 0, 0, 0]);
+    }
+    first
 }

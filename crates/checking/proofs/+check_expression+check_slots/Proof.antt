@@ -1,7 +1,7 @@
 use native.Mathlib.Omega.{arith}
 use borrow.Author.Needs.{needs}
 use Rattle.places.specs.Places.{expression-measure, slots-measure}
-use Rattle.checking.proofs.Laws.{expression-readable, frame-slots, frame-falls, expression-single, expression-frame}
+use Rattle.checking.proofs.Laws.{frame-slots, frame-falls, expression-single, expression-frame}
 use Rattle.checking.proofs.Laws.{Checking, slots-start, slots-none, slot-expression, slot-falls, slots-met, next-falls, slots-again, base-met, base-again}
 use Prim.Native.Nat.{ℕ, _<_}
 use borrow.Fn.Kinds.{In}
@@ -65,7 +65,7 @@ check-expression-enum-known-e : (t : ℕ) → check-expression-lts.Need-enum-kno
 check-expression-enum-known-e t c = search needs
 
 check-expression-check-single-requires : (t : ℕ) → check-expression-lts.Need-check-single-requires (check-expression-calls t) (check-expression-at t) check-expression.Post
-check-expression-check-single-requires t c κs = search expression-readable
+check-expression-check-single-requires t c κs = search needs
 
 check-expression-returns : (t : ℕ) → check-expression-lts.Need-returns (check-expression-calls t) (check-expression-at t) check-expression.Post
 check-expression-returns t c = search expression-single

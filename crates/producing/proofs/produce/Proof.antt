@@ -1,4 +1,4 @@
-use Rattle.producing.proofs.Laws.{readable-from, can-join, produce-integer, produce-joined, produce-ended}
+use Rattle.producing.proofs.Laws.{comparable-from, can-join, produce-integer, produce-joined, produce-ended}
 use borrow.Author.Needs.{needs}
 use Rattle.producing.proofs.produce.Statement.{statement}
 use Rattle.producing.proofs.produce.Tie as tie
@@ -8,7 +8,7 @@ use Rattle.operators.proofs.operate.Reads as operate-reads
 use Rattle.producing.proofs.join.Reads as join-reads
 
 operate-requires : tie.Need-operate-requires
-operate-requires c κs = search readable-from
+operate-requires c κs = search comparable-from
 
 enum-known-o : tie.Need-enum-known-o
 enum-known-o c = search needs

@@ -1,4 +1,4 @@
-use Rattle.step_assign.proofs.Does.{assign-readable, assign-put-ended, assign-made, assign-ended, assign-left}
+use Rattle.step_assign.proofs.Does.{assign-comparable, assign-put-ended, assign-made, assign-ended, assign-left}
 use borrow.Author.Needs.{needs}
 use Rattle.step_assign.proofs.assign.Statement.{statement}
 use Rattle.step_assign.proofs.assign.Tie as tie
@@ -15,7 +15,7 @@ instruction-c-requires : tie.Need-instruction-c-requires
 instruction-c-requires c κs = search needs
 
 expression-requires : tie.Need-expression-requires
-expression-requires c κs = search assign-readable
+expression-requires c κs = search assign-comparable
 
 enum-known-v : tie.Need-enum-known-v
 enum-known-v c = search needs

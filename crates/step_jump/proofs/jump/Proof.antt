@@ -4,7 +4,7 @@ use Rattle.step_jump.proofs.jump.Statement.{statement}
 use Rattle.step_jump.proofs.jump.Tie as tie
 use Rattle.step_jump.proofs.jump.Reads as reads
 use Rattle.step_jump.proofs.jump.Lts as lts
-use Rattle.commit.proofs.first_place.Reads as first-place-reads
+use Rattle.places.proofs.first_place.Reads as first-place-reads
 use Rattle.heap.proofs.set_position.Reads as set-position-reads
 use Rattle.heap.proofs.set_self.Reads as set-self-reads
 use Rattle.operands.proofs.operand.Reads as operand-reads
