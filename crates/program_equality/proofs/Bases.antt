@@ -19,10 +19,10 @@ use Rattle.framed.proofs.SameCodeExact.{Both, both, integer-equal, integer-self
 use Rattle.framed.proofs.Lists.{or-either}
 use Rattle.tables.specs.declared.ExpressionEntry.{ExpressionEntry}
 use Rattle.tables.specs.Entries.{expression-at}
-use Rattle.tables.specs.Fields.{expressions, code-first, link, expression-kind, expression-a, expression-b}
+use Rattle.tables.specs.Fields.{expressions, path-names, code-first, link, expression-kind, expression-a, expression-b}
 use Rattle.program_form.specs.WellFormed.{WellFormed}
 use Rattle.texts.specs.Literals.{literals-held}
-use Rattle.texts.specs.Texts.{LiteralsInside, same-literal-bytes}
+use Rattle.texts.specs.Texts.{Inside, LiteralsInside, same-literal-bytes}
 use Rattle.texts.proofs.Inside.{literals-inside}
 use Rattle.trees.specs.Trees.{operator-of}
 use Rattle.trees.specs.Held.{base-held, expression-held, slots-held, remaining}
@@ -46,6 +46,10 @@ same-word a b fa fb = go (ℕ-discrete a b)
     go : Dec (a ≡ b) → eqb a b ≡ same-integer (toZ w32 a) (toZ w32 b)
     go (yes e) = eq-eqb a b e ∙ rw e (sym (integer-self (toZ w32 b)))
     go (no n) = ne-eqb a b n ∙ apart (same-integer (toZ w32 a) (toZ w32 b)) refl n
+
+-- the path names of a program lie inside its words
+pub path-inside : (p l : List ℕ) → WellFormed p l → (j n : ℕ) → j + n ≤ path-names p → Inside p (2496 + j) n
+path-inside p l w j n le = record { inside = let m = w .entries .limits .path-names-most in let s = w .size in omega arith }
 
 -- ---- same_base
 
@@ -122,14 +126,14 @@ module _ {p l : List ℕ} {x y : ℕ} (s : TwoBases p l x y) where
             go (yes e) = inl e
             go (no ne) = let z = s .left .base in inr (omega arith)
 
-        path-there : (z i c : ℕ) → z < expressions p → (expression-kind p z ≡ 2) ⊎ (expression-kind p z ≡ 3) → i ≡ expression-a p z → c ≡ expression-b p z → i + c ≤ 2048
-        path-there z i c there (inl q) ei ec = let h = w .entries .expression z there .from-self _ _ (at-self p z q) in let g = w .entries .limits .path-names-most in omega arith
-        path-there z i c there (inr q) ei ec = let h = w .entries .expression z there .from-program _ _ (at-program p z q) in let g = w .entries .limits .path-names-most in omega arith
+        path-there : (z i c : ℕ) → z < expressions p → (expression-kind p z ≡ 2) ⊎ (expression-kind p z ≡ 3) → i ≡ expression-a p z → c ≡ expression-b p z → Inside p (2496 + i) c
+        path-there z i c there (inl q) ei ec = path-inside p l w i c (rw (ei, ec) (w .entries .expression z there .from-self _ _ (at-self p z q)))
+        path-there z i c there (inr q) ei ec = path-inside p l w i c (rw (ei, ec) (w .entries .expression z there .from-program _ _ (at-program p z q)))
 
-        pub paths-there : (a + n ≤ 2048) × (b + m ≤ 2048)
+        pub paths-there : Inside p (2496 + a) n × Inside p (2496 + b) m
         paths-there = go path-kind
           where
-            go : (k ≡ 2) ⊎ (k ≡ 3) → (a + n ≤ 2048) × (b + m ≤ 2048)
+            go : (k ≡ 2) ⊎ (k ≡ 3) → Inside p (2496 + a) n × Inside p (2496 + b) m
             go (inl e) = (path-there x a n (s .left .there) (inl (left-is 2 e)) ea en, path-there y b m (s .right .there) (inl (right-is 2 e)) eb em)
             go (inr e) = (path-there x a n (s .left .there) (inr (left-is 3 e)) ea en, path-there y b m (s .right .there) (inr (right-is 3 e)) eb em)
 

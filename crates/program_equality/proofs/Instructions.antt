@@ -3,7 +3,7 @@ use mathlib.Core.Path.{_≡_, refl, _∙_, ap, sym}
 use mathlib.Core.Logic.{_⊎_, inl, inr}
 use mathlib.Core.Bool.{Bool, true, false, not, _&&_}
 use mathlib.Core.List.{List}
-use Prim.Native.Nat.{ℕ, _+_, _≤_, _<_}
+use Prim.Native.Nat.{ℕ, _+_, _<_}
 use native.Mathlib.Omega.{arith}
 use native.Mathlib.Decide.{ℕ-discrete}
 use borrow.Author.Tests.{not-true, not-false}
@@ -15,10 +15,12 @@ use Rattle.tables.specs.Entries.{instruction-at}
 use Rattle.tables.specs.Fields.{instruction-kind, instruction-a, instruction-b, instruction-c}
 use Rattle.program_form.specs.WellFormed.{WellFormed}
 use Rattle.texts.specs.Literals.{literals-held}
+use Rattle.texts.specs.Texts.{Inside}
 use Rattle.trees.specs.Held.{base-held, expression-held, instruction-held}
 use Rattle.trees.proofs.Held as tree
 use Rattle.program_weights.specs.Weight.{base-weight, expression-weight, instruction-weight}
 use Rattle.program_equality.specs.Agreement.{names-agree, bases-agree, expressions-agree, instructions-agree, two-agree, three-agree, TwoBases, TwoExpressions, TwoInstructions}
+use Rattle.program_equality.proofs.Bases.{path-inside}
 use Rattle.program_equality.proofs.EntryKinds.{at-assign-self, at-assign-program, at-show, at-jump, at-ifeq, instruction-kinds, instructions-of-kinds}
 
 and-assoc : (a b c : Bool) → (a && b) && c ≡ a && (b && c)
@@ -162,20 +164,18 @@ module _ {p l : List ℕ} {i j : ℕ} (s : TwoInstructions p l i j) (k m : ℕ) 
           right-program : k ≡ 1 → instruction-at p j ≡ InstructionEntry.AssignProgram d f g
           right-program e = at-assign-program p j (right-is 1 e) ∙ rw (ed, ef, eg)
 
-          pub assign-paths : (a + b ≤ 2048) × (d + f ≤ 2048)
+          pub assign-paths : Inside p (2496 + a) b × Inside p (2496 + d) f
           assign-paths = go assign-kind
             where
-              go : (k ≡ 0) ⊎ (k ≡ 1) → (a + b ≤ 2048) × (d + f ≤ 2048)
-              go (inl e) =
-                  let x = w .entries .instruction i (s .left) .self-path a b c (left-self e) in
-                  let y = w .entries .instruction j (s .right) .self-path d f g (right-self e) in
-                  let z = w .entries .limits .path-names-most in
-                  (omega arith, omega arith)
-              go (inr e) =
-                  let x = w .entries .instruction i (s .left) .program-path a b c (left-program e) in
-                  let y = w .entries .instruction j (s .right) .program-path d f g (right-program e) in
-                  let z = w .entries .limits .path-names-most in
-                  (omega arith, omega arith)
+              go : (k ≡ 0) ⊎ (k ≡ 1) → Inside p (2496 + a) b × Inside p (2496 + d) f
+              go (inl e) = (
+                path-inside p l w a b (w .entries .instruction i (s .left) .self-path a b c (left-self e)),
+                path-inside p l w d f (w .entries .instruction j (s .right) .self-path d f g (right-self e)),
+              )
+              go (inr e) = (
+                path-inside p l w a b (w .entries .instruction i (s .left) .program-path a b c (left-program e)),
+                path-inside p l w d f (w .entries .instruction j (s .right) .program-path d f g (right-program e)),
+              )
 
           assign-expressions : TwoExpressions p l c g
           assign-expressions = go assign-kind

@@ -1,58 +1,32 @@
--- Two paths agree where their names do, one after the other: one law for each way through `same_names`. Assumes nothing.
-use mathlib.Core.Path.{_≡_, refl, ap}
-use mathlib.Core.Bool.{Bool, true, false, _&&_}
+-- A path as a part of the program words, and what `same_names` compares. Assumes nothing.
+use mathlib.Core.Path.{_≡_, _∙_, ap, sym}
+use mathlib.Core.Bool.{Bool}
 use mathlib.Core.List.{List}
-use Prim.Native.Nat.{ℕ, zero, suc, _+_, _-_, _≤_, _<_}
+use Prim.Native.Nat.{ℕ, _+_, _-_}
 use native.Mathlib.Omega.{arith}
-use lib.Dec.{eqb}
-use borrow.Author.Tests.{eq-eqb, ne-eqb}
+use lib.ListN.{take, drop}
 use Rattle.framed.specs.Common.{same}
+use Rattle.words.specs.Words.{word}
 use Rattle.tables.specs.Fields.{path-name}
+use Rattle.heap.proofs.Lists.{listed-same}
+use Rattle.paths.specs.Paths.{path-held}
+use Rattle.texts.specs.Texts.{part-of, Inside}
+use Rattle.texts.proofs.Laws.{part-is, part-listed}
 use Rattle.trees.specs.Trees.{path-list}
+use Rattle.operands.proofs.Lists.{same-path}
 use Rattle.program_equality.specs.Agreement.{names-agree}
 
-and-false : (a : Bool) → false ≡ (a && false)
-and-false true = refl
-and-false false = refl
+path-part : (p : List ℕ) (j n : ℕ) → Inside p (2496 + j) n → part-of p (2496 + j) n ≡ path-list p n j
+unfolding path-held path-name
+path-part p j n s =
+    part-listed p (2496 + j) n (s .inside)
+    ∙ listed-same (λ i. path-name p (j + i)) (λ i. word p (2496 + j + i)) n (λ k lt. ap (word p) (let e : 2496 + j + k ≡ 2496 + (j + k) = omega arith in e))
+    ∙ sym (same-path p j n)
 
-pub counts-apart : (p : List ℕ) (j n k m : ℕ) → (n ≡ m → ⊥) → false ≡ names-agree p j n k m
-unfolding names-agree path-list same
-counts-apart p j zero k zero ne = absurd (ne refl)
-counts-apart p j zero k (suc m) ne = refl
-counts-apart p j (suc n) k zero ne = refl
-counts-apart p j (suc n) k (suc m) ne = rw (← counts-apart p (j + 1) n (k + 1) m (λ e. ne (ap suc e))) (and-false (eqb (path-name p j) (path-name p k)))
+module _ (p : List ℕ) (j n a c : ℕ) (ea : a ≡ j) (ec : c ≡ n) where
+  pub path-here : Inside p (2496 + j) n → take (2496 + a + c - (2496 + a)) (drop (2496 + a) p) ≡ path-list p n j
+  path-here s = rw (ea, ec) (part-is p (2496 + j) n ∙ path-part p j n s)
 
--- the paths are as long, and what is left of them from name i on decides
-pub record NamesLeft (p : List ℕ) (j n k m i : ℕ) : Type 0 where
-  pub inside : i ≤ n
-  pub as-long : n ≡ m
-  pub rest : names-agree p (j + i) (n - i) (k + i) (n - i) ≡ names-agree p j n k m
-
-module _ (p : List ℕ) (j n k m : ℕ) where
-  pub names-start : n ≡ m → NamesLeft p j n k m 0
-  names-start e =
-      let a : j + 0 ≡ j = omega arith in
-      let b : k + 0 ≡ k = omega arith in
-      let c : n - 0 ≡ n = omega arith in
-      record { inside = omega arith; as-long = e; rest = rw (a, b, c, e) }
-
-  module _ (i : ℕ) (s : NamesLeft p j n k m i) where
-    pub names-done : n ≤ i → true ≡ names-agree p j n k m
-    unfolding names-agree path-list same
-    names-done le = let q = s .inside in let z : n - i ≡ 0 = omega arith in rw z at (s .rest)
-
-    module _ (lt : i < n) where
-      turn : eqb (path-name p (j + i)) (path-name p (k + i)) && names-agree p (j + (i + 1)) (n - (i + 1)) (k + (i + 1)) (n - (i + 1)) ≡ names-agree p j n k m
-      unfolding names-agree path-list same
-      turn =
-          let z : n - i ≡ suc (n - (i + 1)) = omega arith in
-          let a : (j + i) + 1 ≡ j + (i + 1) = omega arith in
-          let b : (k + i) + 1 ≡ k + (i + 1) = omega arith in
-          rw (z, a, b) at (s .rest)
-
-      module _ (x y : ℕ) (ex : x ≡ path-name p (j + i)) (ey : y ≡ path-name p (k + i)) where
-        pub names-apart : (x ≡ y → ⊥) → false ≡ names-agree p j n k m
-        names-apart ne = rw (← ex, ← ey, ne-eqb x y ne) at turn
-
-        pub names-again : x ≡ y → NamesLeft p j n k m (i + 1)
-        names-again e = record { inside = omega arith; as-long = s .as-long; rest = rw (← ex, ← ey, eq-eqb x y e) at turn }
+pub names-compared : (p : List ℕ) (j n k m : ℕ) (a b : List ℕ) (r : Bool) → r ≡ same a b → a ≡ path-list p n j → b ≡ path-list p m k → r ≡ names-agree p j n k m
+unfolding names-agree
+names-compared p j n k m a b r e ea eb = rw (e, ea, eb)

@@ -2,28 +2,46 @@
 // An expression of well-formed words has one whole, and a code literal one expression. So a pair of expressions is come to from one pair of wholes only; and where both
 // wholes name an operand twice, the second pair is not compared again. Each pair is compared at most once, also in words that no source has.
 ghost use mathlib.Core.Path.{_≡_};
-ghost use Prim.Native.Nat.{_+_, _≤_};
+ghost use Prim.Native.Nat.{_+_};
+ghost use Rattle.framed.specs.Common.{same};
+ghost use Rattle.texts.specs.Texts.{Inside};
+ghost use Rattle.trees.specs.Trees.{path-list};
 ghost use Rattle.program_form.specs.WellFormed.{WellFormed};
 ghost use Rattle.program_equality.specs.Agreement.{names-agree, bases-agree, two-agree, three-agree, expressions-agree, slots-agree};
 ghost use Rattle.program_equality.specs.Agreement.{instructions-agree, lists-agree, codes-agree};
 ghost use Rattle.program_equality.specs.Agreement.{TwoBases, TwoExpressions, TwoSlotPlaces, TwoInstructions, TwoCodePlaces};
 
-// The n path names from j on are the m path names from k on.
-fn same_names(p: &[u32], j: u32, n: u32, k: u32, m: u32) -> bool
-    requires { ⌜ (j + n ≤ 2048) × (k + m ≤ 2048) ⌝ }
-    ensures { λ r. ⌜ r ≡ names-agree (now (p .entry)) j n k m ⌝ }
+// No word ends the loop, so that compiled code compares many at once.
+fn same_words(a: &[u32], b: &[u32]) -> bool
+    ensures { λ r. ⌜ r ≡ same (now (a .entry)) (now (b .entry)) ⌝ }
 {
-    if n != m {
+    if a.len() != b.len() {
         return false;
     }
-    let mut i = 0u32;
-    while i < n {
-        if tables::path_name(p, j + i) != tables::path_name(p, k + i) {
-            return false;
-        }
+    let mut agree = true;
+    let mut i = 0usize;
+    while i < a.len() {
+        agree = agree & (a[i] == b[i]);
         i += 1;
     }
-    true
+    agree
+}
+
+// The n path names from j on.
+fn path_names<'a>(p: &'a [u32], j: u32, n: u32) -> &'a [u32]
+    requires { ⌜ Inside (now p) (2496 + j) n ⌝ }
+    ensures { λ r. ⌜ now r ≡ path-list (now (p .entry)) n j ⌝ }
+{
+    let from = 2496 + words::wide(j);
+    &p[from..from + words::wide(n)]
+}
+
+// The n path names from j on are the m path names from k on.
+fn same_names(p: &[u32], j: u32, n: u32, k: u32, m: u32) -> bool
+    requires { ⌜ Inside (now p) (2496 + j) n × Inside (now p) (2496 + k) m ⌝ }
+    ensures { λ r. ⌜ r ≡ names-agree (now (p .entry)) j n k m ⌝ }
+{
+    same_words(path_names(p, j, n), path_names(p, k, m))
 }
 
 // Expressions x and y, which are bases.

@@ -12,7 +12,7 @@ use lib.Dec.{eqb, ltb}
 use types.Run.{OneOf, miss}
 use denote.Enum.Declared.{tagOf}
 use lib.IntN.{ℤ}
-use borrow.Author.Tests.{eq-eqb, ne-eqb, lt-ltb, le-ltb}
+use borrow.Author.Tests.{lt-ltb, le-ltb}
 use Rattle.framed.proofs.Value.{the-type}
 use Rattle.framed.specs.declared.Value.{Value}
 use Rattle.arith.specs.Arith.{nonzero}
@@ -127,47 +127,56 @@ text-size-is p l h t (Text.Made k) = go (decLt k 256)
     go (yes lt) = rw (lt-ltb k 256 lt) (ap length (text-at h t k [] lt) ∙ held-length h t k)
     go (no n) = rw (le-ltb k 256 (omega arith)) (ap length (sym (made-past h t k (omega arith))))
 
--- ---- same_bytes: what is left of the two decides
+-- ---- same_bytes: what is left of the two decides, where those before agree
 
-pub record Comparing (a b : List ℕ) (i : ℕ) : Type 0 where
+pub record Comparing (a b : List ℕ) (t : Bool) (i : ℕ) : Type 0 where
   pub inside : i ≤ length a
   pub lengths : length a ≡ length b
-  pub rest : same (drop i a) (drop i b) ≡ same a b
+  pub rest : t && same (drop i a) (drop i b) ≡ same a b
+
+and-false : (t : Bool) → false ≡ t && false
+and-false true = refl
+and-false false = refl
+
+and-true : (t : Bool) → t ≡ t && true
+and-true true = refl
+and-true false = refl
+
+and-assoc : (s t u : Bool) → (s && t) && u ≡ s && (t && u)
+and-assoc true t u = refl
+and-assoc false t u = refl
 
 pub lengths-apart : (a b : List ℕ) → (length a ≡ length b → ⊥) → false ≡ same a b
 unfolding same
 lengths-apart [] [] n = absurd (n refl)
 lengths-apart [] (y ∷ b) n = refl
 lengths-apart (x ∷ a) [] n = refl
-lengths-apart (x ∷ a) (y ∷ b) n = rw (← lengths-apart a b (λ e. n (ap suc e))) (either (eqb x y))
-  where
-    either : (t : Bool) → false ≡ t && false
-    either true = refl
-    either false = refl
+lengths-apart (x ∷ a) (y ∷ b) n = rw (← lengths-apart a b (λ e. n (ap suc e))) (and-false (eqb x y))
 
-pub comparing-start : (a b : List ℕ) → length a ≡ length b → Comparing a b 0
+pub comparing-start : (a b : List ℕ) → length a ≡ length b → Comparing a b true 0
 comparing-start a b e = record { inside = omega arith; lengths = e; rest = refl }
 
-module _ (a b : List ℕ) (i : ℕ) (c : Comparing a b i) where
-  pub comparing-done : length a ≤ i → true ≡ same a b
+module _ (a b : List ℕ) (t : Bool) (i : ℕ) (c : Comparing a b t i) where
+  pub comparing-done : length a ≤ i → t ≡ same a b
   unfolding same
   comparing-done le =
       let q = c .inside in
       let s = c .lengths in
       let ea : i ≡ length a = omega arith in
       let eb : i ≡ length b = omega arith in
-      rw (ap (λ (k : ℕ). drop k a) ea ∙ drop-length a, ap (λ (k : ℕ). drop k b) eb ∙ drop-length b) at (c .rest)
+      and-true t ∙ (rw (ap (λ (k : ℕ). drop k a) ea ∙ drop-length a, ap (λ (k : ℕ). drop k b) eb ∙ drop-length b) at (c .rest))
 
-  module _ (lt : i < length a) where
-    turn : eqb (getD a i 0) (getD b i 0) && same (drop (i + 1) a) (drop (i + 1) b) ≡ same a b
-    unfolding same
-    turn = let s = c .lengths in rw (add-one i) (rw (drop-cons a i 0 lt, drop-cons b i 0 (omega arith)) at (c .rest))
-
-    pub comparing-apart : (getD a i 0 ≡ getD b i 0 → ⊥) → false ≡ same a b
-    comparing-apart n = rw (ne-eqb (getD a i 0) (getD b i 0) n) at turn
-
-    pub comparing-again : getD a i 0 ≡ getD b i 0 → Comparing a b (i + 1)
-    comparing-again e = record { inside = omega arith; lengths = c .lengths; rest = rw (eq-eqb (getD a i 0) (getD b i 0) e) at turn }
+  pub comparing-again : i < length a → Comparing a b (t && eqb (getD a i 0) (getD b i 0)) (i + 1)
+  unfolding same
+  comparing-again lt =
+      let s = c .lengths in
+      record {
+        inside = omega arith;
+        lengths = s;
+        rest =
+            and-assoc t (eqb (getD a i 0) (getD b i 0)) (same (drop (i + 1) a) (drop (i + 1) b))
+            ∙ rw (add-one i) (rw (drop-cons a i 0 lt, drop-cons b i 0 (omega arith)) at (c .rest));
+      }
 
 -- ---- same_literal_bytes, same_texts, truth
 

@@ -74,20 +74,20 @@ pub fn text_size(p: &[u32], h: &[u32], x: Text) -> u32
     }
 }
 
+// No byte ends the loop, so that compiled code compares many at once.
 fn same_bytes(a: &[u8], b: &[u8]) -> bool
     ensures { λ r. ⌜ r ≡ same (now (a .entry)) (now (b .entry)) ⌝ }
 {
     if a.len() != b.len() {
         return false;
     }
+    let mut agree = true;
     let mut i = 0usize;
     while i < a.len() {
-        if a[i] != b[i] {
-            return false;
-        }
+        agree = agree & (a[i] == b[i]);
         i += 1;
     }
-    true
+    agree
 }
 
 // Literals k and m have equal bytes.
