@@ -1,6 +1,6 @@
 // Writes and compares programs that no source has, so that the gate shows them answered at once: a text of more than 2^60 bytes, the same program with few levels, frames in
 // frames as deep as there are expressions, and equal codes that hold each code inside them twice or three times, 60 levels deep: one that compared a pair again would never
-// answer. Each is made from a loaded program, a word at a time.
+// answer. Before these stand fewer levels and a bound on the time. Each is made from a loaded program, a word at a time.
 use framed::RunAnswer;
 use framed::WriteAnswer;
 
@@ -141,6 +141,11 @@ fn compare_deep(kind: u32, a: u32, b: u32) {
     put_run(&p, &mut h, &l, &mut t);
 }
 
+// This program has had less than two seconds of the processor's time, which `clock` counts in millionths.
+fn soon() -> bool {
+    libc::clock() < 2000000
+}
+
 fn main() {
     let jumps = b"frame: [ Main := frame: [ start := code { jump code {} 1; } ] ]";
     write_deep(jumps, 1);
@@ -151,6 +156,13 @@ fn main() {
         b"frame: [ Main := frame: [ start := code { show code { show ^.^; }; } ], d := 1 ]",
         0,
     );
+    // compared again and again, these would take many seconds, and what follows would never end
+    compare_deep(3, 31, 31);
+    compare_deep(4, 20, 20);
+    if !soon() {
+        print_output::put(b"too slow\n");
+        return;
+    }
     compare_deep(3, 60, 60);
     compare_deep(3, 60, 59);
     compare_deep(4, 60, 60);
