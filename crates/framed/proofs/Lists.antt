@@ -13,6 +13,10 @@ use Rattle.framed.proofs.General.{none≢some, some-inj}
 
 -- ---- Tests
 
+pub both : (a b : Bool) → a && b ≡ true → (a ≡ true) × (b ≡ true)
+both true b e = (refl, e)
+both false b e = absurd (false≢true e)
+
 pub or-either : {C : Type 0} (a b : Bool) → (a || b) ≡ true → (a ≡ true → C) → (b ≡ true → C) → C
 or-either true b e f g = f refl
 or-either false b e f g = g e

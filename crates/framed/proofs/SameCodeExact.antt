@@ -1,6 +1,6 @@
 -- Document 02, A4: two codes agree exactly when they are the same tree, with the numbers of codes left out and the bytes of literals in place of their numbers. Assumes nothing.
 use mathlib.Core.Path.{_≡_, refl, _∙_, ap, sym}
-use mathlib.Core.Bool.{Bool, true, false, _&&_, false≢true}
+use mathlib.Core.Bool.{true, false, _&&_, false≢true}
 use mathlib.Core.List.{List, []}
 use Prim.Native.Nat.{ℕ, zero, suc}
 use native.Mathlib.Omega.{arith}
@@ -15,17 +15,9 @@ use Rattle.framed.specs.Values.{same-integer}
 use Rattle.framed.specs.Equality.{same-path, operator-number, same-base, same-expression, same-slots, same-instruction, same-code}
 use Rattle.framed.specs.Equality.{PlainBase, PlainExpression, PlainInstruction, plain-base, plain-expression, plain-slots, plain-instruction, plain-code}
 use Rattle.framed.specs.Theorems.{SameCodeExact}
-use Rattle.framed.proofs.Lists.{same-self, same-equal}
+use Rattle.framed.proofs.Lists.{both, same-self, same-equal}
 
 -- ---- Parts without a tree
-
-pub record Both (a b : Bool) : Type 0 where
-  pub first : a ≡ true
-  pub second : b ≡ true
-
-pub both : (a b : Bool) → a && b ≡ true → Both a b
-both true b e = record { first = refl; second = e }
-both false b e = absurd (false≢true e)
 
 no : {A : Type 0} → false ≡ true → A
 no e = absurd (false≢true e)
@@ -117,8 +109,8 @@ module _ (lits : List (List ℕ)) where
     expression-same (Expression.operation o a c) (Expression.not b) e = no e
     expression-same (Expression.operation o a c) (Expression.operation q b d) e =
         let x = both (eqb (operator-number o) (operator-number q)) (same-base lits a b && same-base lits c d) e in
-        let y = both (same-base lits a b) (same-base lits c d) (x .second) in
-        rw (operator-equal o q (x .first), base-same a b (y .first), base-same c d (y .second))
+        let y = both (same-base lits a b) (same-base lits c d) (x .1) in
+        rw (operator-equal o q (x .0), base-same a b (y .0), base-same c d (y .1))
     expression-same (Expression.operation o a c) (Expression.frame ts) e = no e
     expression-same (Expression.frame ss) (Expression.base b) e = no e
     expression-same (Expression.frame ss) (Expression.not b) e = no e
@@ -131,13 +123,13 @@ module _ (lits : List (List ℕ)) where
     slots-same (Slots.slot n x ss) Slots.no-slots e = no e
     slots-same (Slots.slot n x ss) (Slots.slot m y ts) e =
         let u = both (eqb n m) (same-expression lits x y && same-slots lits ss ts) e in
-        let v = both (same-expression lits x y) (same-slots lits ss ts) (u .second) in
-        rw (eqb-true n m (u .first), expression-same x y (v .first), slots-same ss ts (v .second))
+        let v = both (same-expression lits x y) (same-slots lits ss ts) (u .1) in
+        rw (eqb-true n m (u .0), expression-same x y (v .0), slots-same ss ts (v .1))
 
     pub instruction-same : (i j : Instruction Path) → same-instruction lits i j ≡ true → plain-instruction lits i ≡ plain-instruction lits j
     instruction-same (Instruction.assign p x) (Instruction.assign q y) e =
         let u = both (same-path p q) (same-expression lits x y) e in
-        rw (path-equal p q (u .first), expression-same x y (u .second))
+        rw (path-equal p q (u .0), expression-same x y (u .1))
     instruction-same (Instruction.assign p x) (Instruction.show b) e = no e
     instruction-same (Instruction.assign p x) (Instruction.jump b d) e = no e
     instruction-same (Instruction.assign p x) (Instruction.ifeq b d h) e = no e
@@ -149,15 +141,15 @@ module _ (lits : List (List ℕ)) where
     instruction-same (Instruction.jump a c) (Instruction.show b) e = no e
     instruction-same (Instruction.jump a c) (Instruction.jump b d) e =
         let u = both (same-base lits a b) (same-base lits c d) e in
-        rw (base-same a b (u .first), base-same c d (u .second))
+        rw (base-same a b (u .0), base-same c d (u .1))
     instruction-same (Instruction.jump a c) (Instruction.ifeq b d h) e = no e
     instruction-same (Instruction.ifeq a c g) (Instruction.assign q y) e = no e
     instruction-same (Instruction.ifeq a c g) (Instruction.show b) e = no e
     instruction-same (Instruction.ifeq a c g) (Instruction.jump b d) e = no e
     instruction-same (Instruction.ifeq a c g) (Instruction.ifeq b d h) e =
         let u = both (same-base lits a b) (same-base lits c d && same-base lits g h) e in
-        let v = both (same-base lits c d) (same-base lits g h) (u .second) in
-        rw (base-same a b (u .first), base-same c d (v .first), base-same g h (v .second))
+        let v = both (same-base lits c d) (same-base lits g h) (u .1) in
+        rw (base-same a b (u .0), base-same c d (v .0), base-same g h (v .1))
 
     pub code-same : (is js : Code Path) → same-code lits is js ≡ true → plain-code lits is ≡ plain-code lits js
     code-same Code.finished Code.finished e = refl
@@ -165,7 +157,7 @@ module _ (lits : List (List ℕ)) where
     code-same (i then is) Code.finished e = no e
     code-same (i then is) (j then js) e =
         let u = both (same-instruction lits i j) (same-code lits is js) e in
-        rw (instruction-same i j (u .first), code-same is js (u .second))
+        rw (instruction-same i j (u .0), code-same is js (u .1))
 
 -- ---- The same tree agrees
 

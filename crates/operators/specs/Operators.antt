@@ -42,7 +42,7 @@ operation (Operated.Integer z) bs = gives (number z)
 operation Operated.Joined bs = gives (text bs)
 operation (Operated.Ended e) bs = ends e
 
--- they look at no text and at no code
+-- the kinds below 12 look at no text and at no code
 abbrev pub no-constants : Constants
 no-constants = record { literals = []; codes = [] }
 

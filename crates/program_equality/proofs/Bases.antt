@@ -15,8 +15,8 @@ use Rattle.framed.specs.Tree.{Base, Expression}
 use Rattle.framed.specs.Paths.{Path, from-self, from-program}
 use Rattle.framed.specs.Values.{same-integer}
 use Rattle.framed.specs.Equality.{same-path, operator-number, same-base, same-expression}
-use Rattle.framed.proofs.SameCodeExact.{Both, both, integer-equal, integer-self}
-use Rattle.framed.proofs.Lists.{or-either}
+use Rattle.framed.proofs.SameCodeExact.{integer-equal, integer-self}
+use Rattle.framed.proofs.Lists.{both, or-either}
 use Rattle.tables.specs.declared.ExpressionEntry.{ExpressionEntry}
 use Rattle.tables.specs.Entries.{expression-at}
 use Rattle.tables.specs.Fields.{expressions, path-names, code-first, link, expression-kind, expression-a, expression-b}
@@ -188,7 +188,7 @@ module _ (p l : List ℕ) where
       unfolding two-agree
       two-once e =
           let q = both (eqb a b) (eqb c d) e in
-          rw (← er, yes-first) (sym (sym (same-pair a b c d (eqb-true a b (q .first)) (eqb-true c d (q .second))) ∙ sym er ∙ yes-first))
+          rw (← er, yes-first) (sym (sym (same-pair a b c d (eqb-true a b (q .0)) (eqb-true c d (q .1))) ∙ sym er ∙ yes-first))
 
       pub two-both : (q : Bool) → q ≡ bases-agree p l b d → q ≡ two-agree p l a b c d
       unfolding two-agree
@@ -203,7 +203,7 @@ module _ (p l : List ℕ) where
       yes-both : r ≡ true
       yes-both = not-false r first
 
-      both-agree : Both (bases-agree p l a d) (bases-agree p l b e)
+      both-agree : (bases-agree p l a d ≡ true) × (bases-agree p l b e ≡ true)
       unfolding two-agree
       both-agree = both (bases-agree p l a d) (bases-agree p l b e) (sym er ∙ yes-both)
 
@@ -212,10 +212,10 @@ module _ (p l : List ℕ) where
       three-once h = rw (← er, yes-both) (sym (or-either (eqb a c && eqb d f) (eqb b c && eqb e f) h left middle))
         where
           left : eqb a c && eqb d f ≡ true → bases-agree p l c f ≡ true
-          left g = let q = both (eqb a c) (eqb d f) g in sym (same-pair a c d f (eqb-true a c (q .first)) (eqb-true d f (q .second))) ∙ both-agree .first
+          left g = let q = both (eqb a c) (eqb d f) g in sym (same-pair a c d f (eqb-true a c (q .0)) (eqb-true d f (q .1))) ∙ both-agree .0
 
           middle : eqb b c && eqb e f ≡ true → bases-agree p l c f ≡ true
-          middle g = let q = both (eqb b c) (eqb e f) g in sym (same-pair b c e f (eqb-true b c (q .first)) (eqb-true e f (q .second))) ∙ both-agree .second
+          middle g = let q = both (eqb b c) (eqb e f) g in sym (same-pair b c e f (eqb-true b c (q .0)) (eqb-true e f (q .1))) ∙ both-agree .1
 
       pub three-all : (q : Bool) → q ≡ bases-agree p l c f → q ≡ three-agree p l a b c d e f
       unfolding three-agree

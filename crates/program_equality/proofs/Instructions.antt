@@ -1,7 +1,7 @@
 -- One law for each way through `same_instruction`, for what each call asks and for each fall of the weight. Assumes nothing.
-use mathlib.Core.Path.{_≡_, refl, _∙_, ap, sym}
+use mathlib.Core.Path.{_≡_, _∙_, ap, sym}
 use mathlib.Core.Logic.{_⊎_, inl, inr}
-use mathlib.Core.Bool.{Bool, true, false, not, _&&_}
+use mathlib.Core.Bool.{Bool, true, false, not, _&&_, and-assoc}
 use mathlib.Core.List.{List}
 use Prim.Native.Nat.{ℕ, _+_, _<_}
 use native.Mathlib.Omega.{arith}
@@ -22,10 +22,6 @@ use Rattle.program_weights.specs.Weight.{base-weight, expression-weight, instru
 use Rattle.program_equality.specs.Agreement.{names-agree, bases-agree, expressions-agree, instructions-agree, two-agree, three-agree, TwoBases, TwoExpressions, TwoInstructions}
 use Rattle.program_equality.proofs.Bases.{path-inside}
 use Rattle.program_equality.proofs.EntryKinds.{at-assign-self, at-assign-program, at-show, at-jump, at-ifeq, instruction-kinds, instructions-of-kinds}
-
-and-assoc : (a b c : Bool) → (a && b) && c ≡ a && (b && c)
-and-assoc true b c = refl
-and-assoc false b c = refl
 
 module _ {p l : List ℕ} {i j : ℕ} (s : TwoInstructions p l i j) (k m : ℕ) (ek : k ≡ instruction-kind p i) (em : m ≡ instruction-kind p j) where
   w : WellFormed p l

@@ -2,7 +2,7 @@
 use Prim.Native.Nat.{ℕ, suc, _+_, _-_, _*_, _≤_, _<_}
 use mathlib.Core.Path.{_≡_, refl, _∙_, ap, sym}
 use mathlib.Core.List.{List, [], _∷_}
-use mathlib.Core.Bool.{Bool, true, false, _&&_}
+use mathlib.Core.Bool.{Bool, true, false, _&&_, and-true, and-false, and-assoc}
 use native.Mathlib.Omega.{arith}
 use native.Mathlib.Numerals.{add-one}
 use native.Mathlib.Decide.{decLt}
@@ -134,24 +134,12 @@ pub record Comparing (a b : List ℕ) (t : Bool) (i : ℕ) : Type 0 where
   pub lengths : length a ≡ length b
   pub rest : t && same (drop i a) (drop i b) ≡ same a b
 
-and-false : (t : Bool) → false ≡ t && false
-and-false true = refl
-and-false false = refl
-
-and-true : (t : Bool) → t ≡ t && true
-and-true true = refl
-and-true false = refl
-
-and-assoc : (s t u : Bool) → (s && t) && u ≡ s && (t && u)
-and-assoc true t u = refl
-and-assoc false t u = refl
-
 pub lengths-apart : (a b : List ℕ) → (length a ≡ length b → ⊥) → false ≡ same a b
 unfolding same
 lengths-apart [] [] n = absurd (n refl)
 lengths-apart [] (y ∷ b) n = refl
 lengths-apart (x ∷ a) [] n = refl
-lengths-apart (x ∷ a) (y ∷ b) n = rw (← lengths-apart a b (λ e. n (ap suc e))) (and-false (eqb x y))
+lengths-apart (x ∷ a) (y ∷ b) n = rw (← lengths-apart a b (λ e. n (ap suc e))) (sym (and-false (eqb x y)))
 
 pub comparing-start : (a b : List ℕ) → length a ≡ length b → Comparing a b true 0
 comparing-start a b e = record { inside = omega arith; lengths = e; rest = refl }
@@ -164,7 +152,7 @@ module _ (a b : List ℕ) (t : Bool) (i : ℕ) (c : Comparing a b t i) where
       let s = c .lengths in
       let ea : i ≡ length a = omega arith in
       let eb : i ≡ length b = omega arith in
-      and-true t ∙ (rw (ap (λ (k : ℕ). drop k a) ea ∙ drop-length a, ap (λ (k : ℕ). drop k b) eb ∙ drop-length b) at (c .rest))
+      sym (and-true t) ∙ (rw (ap (λ (k : ℕ). drop k a) ea ∙ drop-length a, ap (λ (k : ℕ). drop k b) eb ∙ drop-length b) at (c .rest))
 
   pub comparing-again : i < length a → Comparing a b (t && eqb (getD a i 0) (getD b i 0)) (i + 1)
   unfolding same

@@ -15,7 +15,8 @@ use Rattle.framed.specs.Bytes.{class, in-letters, in-digits, space-bytes, mark-
 use Rattle.framed.specs.Tokens.{number}
 use Rattle.framed.specs.Values.{decimal}
 use Rattle.framed.proofs.Digits.{digits-few}
-use Rattle.token_spelling.proofs.Runs.{both, All}
+use Rattle.framed.proofs.Lists.{both}
+use Rattle.token_spelling.proofs.Runs.{All}
 
 digit-most : (b : ℕ) → digit class b ≡ true → b ≤ 57
 unfolding class

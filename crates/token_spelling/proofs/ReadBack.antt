@@ -13,11 +13,11 @@ use Rattle.framed.specs.Bytes.{Classes, class, letter, digit, name-byte, string
 use Rattle.framed.specs.Tokens.{Token, Fixed, Operator, Read, skip, word, in-range, number, read-name, read-integer, read-string, two-bytes, read-mark, read, next, Tokens}
 use Rattle.framed.specs.Values.{decimal}
 use Rattle.framed.specs.Writer.{fixed-bytes, token-bytes, Writer}
-use Rattle.framed.proofs.Lists.{same-equal}
+use Rattle.framed.proofs.Lists.{both, same-equal}
 use Rattle.framed.proofs.TokensExact.{skip-shorter}
 use Rattle.token_spelling.specs.Spelling.{Lawful, Stops, Back, ReadBack, ReadShort}
 use Rattle.token_spelling.proofs.Lawful.{anchored, by-anchor, name-ends, next-first}
-use Rattle.token_spelling.proofs.Runs.{both, All, while-all, while-length, while-more, after-more, while-back, after-back}
+use Rattle.token_spelling.proofs.Runs.{All, while-all, while-length, while-more, after-more, while-back, after-back}
 use Rattle.token_spelling.proofs.FixedBack.{fixed-back}
 use Rattle.token_spelling.proofs.IntegerBack.{integer-back}
 use Rattle.token_spelling.proofs.DecimalLength.{decimal-length, negative-length}
