@@ -1,4 +1,5 @@
-/* Loads a model from a file, runs it in slices of fuel, collects between them, and looks at its verdict.
+/* Loads a model from a file, runs it in slices of fuel, collects between them, and looks at its verdict. Where the frames of
+ * the model have no room, it says which instructions made them.
  *
  *   make library
  *   cc -O2 -Iinclude examples/embed.c target/staticlib/libframed_c.a -o target/embed
@@ -35,8 +36,9 @@ static int load(const char *name) {
 
 static void look(const char *path) {
     int32_t number = 0;
+    uint32_t maker = 0;
     char text[FRAMED_STRING_BYTES + 1];
-    uint32_t kind = framed_memories_look(&model, path, &number);
+    uint32_t kind = framed_memories_look(&model, path, &number, &maker);
     switch (kind) {
     case FRAMED_INTEGER:
         printf("%s is %d\n", path, (int)number);
@@ -49,11 +51,24 @@ static void look(const char *path) {
         printf("%s is a code\n", path);
         break;
     case FRAMED_FRAME:
-        printf("%s is a frame\n", path);
+        if (maker)
+            printf("%s is a frame made by instruction %u\n", path, (unsigned)maker);
+        else
+            printf("%s is a frame made at loading\n", path);
         break;
     default:
         printf("%s: refused %u: %s\n", path, (unsigned)kind, framed_message(kind));
     }
+}
+
+/* How many of the frames that are reached each instruction made. */
+static void makers(void) {
+    uint32_t counts[FRAMED_MAKERS];
+    framed_memories_makers(&model, counts);
+    for (unsigned n = 1; n < FRAMED_MAKERS; n++)
+        if (counts[n])
+            printf("frames made by instruction %u: %u\n", n, (unsigned)counts[n]);
+    printf("frames made at loading: %u\n", (unsigned)counts[0]);
 }
 
 int main(int argc, char **argv) {
@@ -84,6 +99,8 @@ int main(int argc, char **argv) {
         printf("end %u after %lu steps: %s\n", (unsigned)stop, total, framed_message(stop));
     else
         printf("%s after %lu steps\n", framed_stop_message(stop), total);
+    if (stop == FRAMED_FRAMES_FULL)
+        makers();
     for (int i = 2; i < argc; i++)
         look(argv[i]);
     return stop == FRAMED_DONE ? 0 : 3;

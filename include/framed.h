@@ -8,7 +8,7 @@
  * Build:  make library               (target/staticlib/libframed_c.a, x86-64 Linux)
  *         cc -Iinclude model.c target/staticlib/libframed_c.a
  *
- * Most callers want `struct framed_memories` and the calls framed_memories_.. at the end. The six calls that these stand
+ * Most callers want `struct framed_memories` and the calls framed_memories_.. at the end. The seven calls that these stand
  * on take each memory as a pointer and a length. A pointer to an array of length 0 may be anything but null. Arrays and
  * numbers that a call writes must not overlap any other argument.
  *
@@ -26,9 +26,9 @@ extern "C" {
 #endif
 
 #define FRAMED_VERSION_MAJOR 0
-#define FRAMED_VERSION_MINOR 5
+#define FRAMED_VERSION_MINOR 6
 #define FRAMED_VERSION_PATCH 0
-#define FRAMED_VERSION "0.5.0"
+#define FRAMED_VERSION "0.6.0"
 
 /* The lengths that the four memories must have, in words and bytes. */
 #define FRAMED_PROGRAM_WORDS 16384
@@ -44,6 +44,7 @@ extern "C" {
 #define FRAMED_STRING_BYTES 64    /* the longest text */
 #define FRAMED_LINE_BYTES 65      /* the longest line of a show, with its byte 10 */
 #define FRAMED_TEXT_BUFFER 32767  /* a buffer of this length is never too short for write, where load made the memories */
+#define FRAMED_MAKERS 513         /* the makers that a frame may have: loading, 0, and 512 instructions, from 1 on */
 
 /* What load answers. A refused load changes nothing. */
 enum {
@@ -107,7 +108,7 @@ uint32_t framed_load(const uint8_t *source, size_t source_length, uint32_t frame
  * Answers why it stopped; *steps and *bytes become the steps made and the bytes written. After an end from 31 to 37 the
  * memories keep it, and every later run answers it again. With FRAMED_NOT_WHOLE nothing is written, *steps and *bytes
  * included.
- * Stack: at most 16,120 bytes over program words that load wrote, 317,448 over any memories, which may nest frames and code
+ * Stack: at most 16,776 bytes over program words that load wrote, 321,976 over any memories, which may nest frames and code
  * deeper than a source. */
 uint32_t framed_run(const uint32_t *program, size_t program_length, uint32_t *heap, size_t heap_length,
                     const uint8_t *literals, size_t literals_length, uint8_t *text_bytes, size_t text_length,
@@ -115,23 +116,33 @@ uint32_t framed_run(const uint32_t *program, size_t program_length, uint32_t *he
 
 /* Takes out of use what self and program do not reach. A run does so by itself where it needs room: a call is for a caller
  * who wants the totals. Answers 0, and *frames and *texts become what is reached; or FRAMED_NOT_WHOLE with nothing
- * written. Stack: at most 15,273 bytes. */
+ * written. Stack: at most 15,817 bytes. */
 uint32_t framed_collect(const uint32_t *program, size_t program_length, uint32_t *heap, size_t heap_length,
                         const uint8_t *literals, size_t literals_length, const uint8_t *text_bytes, size_t text_length,
                         uint32_t *frames, uint32_t *texts);
 
-/* What stands at the end of a path, as `self.line` or `^.Main.start` (`^` is the program frame). Answers the kind, and for
- * an integer *number becomes it; else *number stays. Stack: at most 15,281 bytes. */
+/* What stands at the end of a path, as `self.line` or `^.Main.start` (`^` is the program frame). Answers the kind. For an
+ * integer *number becomes it, for a frame *maker the number of the instruction that made it; else they stay. Instructions
+ * are counted from 1 by where each begins in the source, those in code literals too; frames that were made at loading have
+ * the maker 0. Stack: at most 15,321 bytes. */
 uint32_t framed_look(const uint32_t *program, size_t program_length, const uint32_t *heap, size_t heap_length,
                      const uint8_t *literals, size_t literals_length, const uint8_t *text_bytes, size_t text_length,
-                     const uint8_t *path, size_t path_length, int32_t *number);
+                     const uint8_t *path, size_t path_length, int32_t *number, uint32_t *maker);
 
 /* The bytes of the text at the end of a path: answers how many there are (at most 64), and writes them to the front of
  * `out`, as far as they fit. For another kind or a refusal there are none, as for an empty text: framed_look tells them
- * apart. Stack: at most 15,337 bytes. */
+ * apart. Stack: at most 15,353 bytes. */
 size_t framed_look_text(const uint32_t *program, size_t program_length, const uint32_t *heap, size_t heap_length,
                         const uint8_t *literals, size_t literals_length, const uint8_t *text_bytes, size_t text_length,
                         const uint8_t *path, size_t path_length, uint8_t *out, size_t out_length);
+
+/* What made the frames that self and program reach, for a model that has no room (FRAMED_FRAMES_FULL): counts[n] becomes how
+ * many of them instruction n made, counts[0] how many were made at loading. All FRAMED_MAKERS counts are written, and the
+ * memories stay. Answers 0; or FRAMED_NOT_WHOLE with nothing written. The place of instruction n in the source is what the
+ * command `framed where MODEL` tells. Stack: at most 15,793 bytes. */
+uint32_t framed_makers(const uint32_t *program, size_t program_length, const uint32_t *heap, size_t heap_length,
+                       const uint8_t *literals, size_t literals_length, const uint8_t *text_bytes, size_t text_length,
+                       uint32_t counts[FRAMED_MAKERS]);
 
 /* Writes the program as Framed text to the front of `out`, without a byte 0 or 10 at its end, and *length becomes the
  * length of the text. Nothing behind it is written. Loaded with the same F and T, a text of at most FRAMED_SOURCE_BYTES
@@ -139,7 +150,7 @@ size_t framed_look_text(const uint32_t *program, size_t program_length, const ui
  * FRAMED_WRITTEN; with FRAMED_SHORT_BUFFER or FRAMED_NOT_WHOLE nothing is written, *length included. For memories that load
  * made, with any runs and collects since, FRAMED_TEXT_BUFFER bytes are enough; others may have a text of any length, of
  * which no more is looked at than the buffer is long.
- * Stack: at most 31,713 bytes over program words that load wrote, 340,612 over any memories, which may nest frames and code
+ * Stack: at most 31,729 bytes over program words that load wrote, 340,612 over any memories, which may nest frames and code
  * deeper than a source. */
 uint32_t framed_write(const uint32_t *program, size_t program_length, const uint32_t *heap, size_t heap_length,
                       const uint8_t *literals, size_t literals_length, const uint8_t *text_bytes, size_t text_length,
@@ -235,9 +246,10 @@ static inline size_t framed_path_length(const char *text) {
 }
 
 /* framed_look, with the path as a C string. */
-static inline uint32_t framed_memories_look(const struct framed_memories *m, const char *path, int32_t *number) {
+static inline uint32_t framed_memories_look(const struct framed_memories *m, const char *path, int32_t *number,
+                                            uint32_t *maker) {
     return framed_look(m->program, FRAMED_PROGRAM_WORDS, m->heap, FRAMED_HEAP_WORDS, m->literals, FRAMED_LITERAL_BYTES,
-                       m->texts, FRAMED_TEXT_BYTES, (const uint8_t *)path, framed_path_length(path), number);
+                       m->texts, FRAMED_TEXT_BYTES, (const uint8_t *)path, framed_path_length(path), number, maker);
 }
 
 /* framed_look_text, with the path as a C string. What it writes to `out` has no byte 0 at its end. */
@@ -246,6 +258,12 @@ static inline size_t framed_memories_look_text(const struct framed_memories *m, 
     return framed_look_text(m->program, FRAMED_PROGRAM_WORDS, m->heap, FRAMED_HEAP_WORDS, m->literals,
                             FRAMED_LITERAL_BYTES, m->texts, FRAMED_TEXT_BYTES, (const uint8_t *)path,
                             framed_path_length(path), (uint8_t *)out, out_length);
+}
+
+/* framed_makers. */
+static inline uint32_t framed_memories_makers(const struct framed_memories *m, uint32_t counts[FRAMED_MAKERS]) {
+    return framed_makers(m->program, FRAMED_PROGRAM_WORDS, m->heap, FRAMED_HEAP_WORDS, m->literals,
+                         FRAMED_LITERAL_BYTES, m->texts, FRAMED_TEXT_BYTES, counts);
 }
 
 /* framed_write. What it writes to `out` has no byte 0 at its end. */

@@ -35,6 +35,8 @@ pub const SOURCE_BYTES: usize = 16_384;
 /// A buffer of so many bytes is never too short for write, where load made the memories, with any runs and collects since:
 /// a text has less than twice the bytes of its source.
 pub const TEXT_BUFFER: usize = 32_767;
+/// How many makers a frame may have: 0 for loading, and the numbers of 512 instructions, from 1 on.
+pub const MAKERS: usize = 513;
 
 /// Why a call was refused: 1 to 12 by load, 20 by every other call, 21 and 22 by look, 23 by write.
 #[derive(Clone, Copy, Debug, PartialEq, Eq, PartialOrd, Ord, Hash)]
@@ -170,7 +172,9 @@ pub enum Found {
     Integer(i32),
     Text,
     Code,
-    Frame,
+    /// With its maker: the number of the instruction that made it, counted from 1 by where each begins in the source; 0
+    /// where it was made at loading. `places` has the place of instruction n at n - 1.
+    Frame(u32),
 }
 
 /// The four memories that the calls are lent.

@@ -2,7 +2,7 @@
 //!
 //! The library has no precondition beyond what Rust's references give: slices of any lengths and contents, of which those
 //! that are written overlap no other.
-use crate::{End, Found, Memories, Refusal, RunReport, Stop, Totals, TEXT_BUFFER};
+use crate::{End, Found, Memories, Refusal, RunReport, Stop, Totals, MAKERS, TEXT_BUFFER};
 
 mod sys {
     extern "C" {
@@ -62,6 +62,7 @@ mod sys {
             path: *const u8,
             path_length: usize,
             number: *mut i32,
+            maker: *mut u32,
         ) -> u32;
 
         pub fn framed_look_text(
@@ -78,6 +79,18 @@ mod sys {
             out: *mut u8,
             out_length: usize,
         ) -> usize;
+
+        pub fn framed_makers(
+            program: *const u32,
+            program_length: usize,
+            heap: *const u32,
+            heap_length: usize,
+            literals: *const u8,
+            literals_length: usize,
+            text_bytes: *const u8,
+            text_length: usize,
+            counts: *mut u32,
+        ) -> u32;
 
         pub fn framed_write(
             program: *const u32,
@@ -206,6 +219,7 @@ pub fn look(
     path: &[u8],
 ) -> Result<Found, Refusal> {
     let mut integer = 0;
+    let mut maker = 0;
     // SAFETY: as in `load`
     let number = unsafe {
         sys::framed_look(
@@ -220,13 +234,14 @@ pub fn look(
             path.as_ptr(),
             path.len(),
             &mut integer,
+            &mut maker,
         )
     };
     match number {
         1 => Ok(Found::Integer(integer)),
         2 => Ok(Found::Text),
         3 => Ok(Found::Code),
-        4 => Ok(Found::Frame),
+        4 => Ok(Found::Frame(maker)),
         _ => Err(Refusal(number)),
     }
 }
@@ -252,6 +267,36 @@ pub fn look_text(program: &[u32], heap: &[u32], literals: &[u8], texts: &[u8], p
         )
     };
     out[..length].to_vec()
+}
+
+/// Counts the frames that self and program reach by their makers: `counts[n]` becomes how many of them the instruction of
+/// number n made, from 1 on, and `counts[0]` how many were made at loading. Nothing else is written.
+pub fn makers(
+    program: &[u32],
+    heap: &[u32],
+    literals: &[u8],
+    texts: &[u8],
+    counts: &mut [u32; MAKERS],
+) -> Result<(), Refusal> {
+    // SAFETY: as in `load`; the library writes at most so many counts
+    let number = unsafe {
+        sys::framed_makers(
+            program.as_ptr(),
+            program.len(),
+            heap.as_ptr(),
+            heap.len(),
+            literals.as_ptr(),
+            literals.len(),
+            texts.as_ptr(),
+            texts.len(),
+            counts.as_mut_ptr(),
+        )
+    };
+    if number == 0 {
+        Ok(())
+    } else {
+        Err(Refusal(number))
+    }
 }
 
 /// Writes the program as Framed text to the front of `out` and gives the length of the text; nothing else of `out` is
@@ -324,6 +369,15 @@ impl Model {
     pub fn look_text(&self, path: impl AsRef<[u8]>) -> Vec<u8> {
         let m = &self.memories;
         look_text(&m.program, &m.heap, &m.literals, &m.texts, path.as_ref())
+    }
+
+    /// How many of the frames that self and program reach each instruction made, by its number from 1 on as
+    /// [`Found::Frame`] has it; at 0 those that were made at loading.
+    pub fn makers(&self) -> [u32; MAKERS] {
+        let m = &self.memories;
+        let mut counts = [0; MAKERS];
+        makers(&m.program, &m.heap, &m.literals, &m.texts, &mut counts).expect("whole memories");
+        counts
     }
 
     /// The program as Framed text, on one line: loaded with the same limits it is the same program, as long as it has no

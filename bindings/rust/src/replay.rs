@@ -293,7 +293,7 @@ impl<C: Calls, W: Write> Replay<'_, C, W> {
                 self.out.write_all(&[b"look text ", text.as_slice(), b"\n"].concat())
             }
             Ok(Found::Code) => self.out.write_all(b"look code\n"),
-            Ok(Found::Frame) => self.out.write_all(b"look frame\n"),
+            Ok(Found::Frame(maker)) => writeln!(self.out, "look frame maker {maker}"),
             Err(refusal) => self.put_refused(begin, &String::from_utf8_lossy(path), refusal),
         }
     }

@@ -106,6 +106,7 @@ fn the_header_has_version_and_sizes() {
         ("FRAMED_TEXT_BYTES", framed::TEXT_BYTES),
         ("FRAMED_SOURCE_BYTES", framed::SOURCE_BYTES),
         ("FRAMED_TEXT_BUFFER", framed::TEXT_BUFFER),
+        ("FRAMED_MAKERS", framed::MAKERS),
     ] {
         assert_eq!(define(&header, name), size.to_string(), "{name}");
     }
@@ -231,7 +232,7 @@ mod examples {
         ),
         (
             "drive",
-            &["self.faults", "self.line", "^.Main.start", "self", "self.nowhere", "a b"],
+            &["self.faults", "self.line", "^.Main.start", "self", "self.command", "self.nowhere", "a b"],
             "read length 16\nwrite length 16\ntrim length 24\n\
              slice 1: 500 steps, 16 frames and 0 texts reached\n\
              slice 2: 500 steps, 16 frames and 0 texts reached\n\
@@ -240,7 +241,8 @@ mod examples {
              asked 1600\nerased 1800\na trim of 8 blocks erases 9\nfaults 1\nFAIL\n\
              slice 5: 47 steps, 14 frames and 1 texts reached\n\
              done after 2047 steps\n\
-             self.faults is 1\nself.line is \"faults 1\"\n^.Main.start is a code\nself is a frame\n\
+             self.faults is 1\nself.line is \"faults 1\"\n^.Main.start is a code\nself is a frame made at loading\n\
+             self.command is a frame made by instruction 8\n\
              self.nowhere: refused 22: the path leads nowhere\na b: refused 21: not a path\n",
         ),
         (
@@ -287,6 +289,17 @@ mod examples {
                 3,
                 "1\nslice 1: 1 steps, 3 frames and 0 texts reached\nend 32 after 1 steps: divisor 0\n\
                  self.n: refused 22: the path leads nowhere\n",
+                "",
+            );
+            // F is 40
+            expect(
+                &program,
+                &["examples/leak.framed", "self.log"],
+                3,
+                "slice 1: 76 steps, 39 frames and 0 texts reached\n\
+                 end 36 after 76 steps: no room for the frames that the instruction makes\n\
+                 frames made by instruction 5: 24\nframes made by instruction 7: 12\nframes made at loading: 3\n\
+                 self.log is a frame made by instruction 7\n",
                 "",
             );
             let output = run(&program, &[&endless]);
@@ -364,6 +377,69 @@ mod examples {
         let text = "frame : [ Main := frame : [ start := code { show 1 ; } ] ]";
         let printed = format!("20 7 {stays}\n23 7 {stays}\n23 7 {stays}\n0 58 {text}~~\n20 7 {stays}\n");
         for program in compiled("write", &file) {
+            expect(&program, &[], 0, &printed, "");
+        }
+    }
+
+    /// A look writes the number of an integer and the maker of a frame alone. Refused makers change no count.
+    #[test]
+    fn looks_and_makers() {
+        let file = folder().join("makers.c");
+        let source = r#"
+            #include "framed.h"
+            #include <stdio.h>
+            static struct framed_memories m;
+            static uint32_t counts[FRAMED_MAKERS + 1];
+            static void try_look(const char *path) {
+                int32_t number = -7;
+                uint32_t maker = 7;
+                uint32_t answer = framed_memories_look(&m, path, &number, &maker);
+                printf("%u %d %u\n", (unsigned)answer, (int)number, (unsigned)maker);
+            }
+            static void try_makers(void) {
+                unsigned others = 0;
+                for (size_t i = 0; i <= FRAMED_MAKERS; i++)
+                    counts[i] = 9;
+                uint32_t answer = framed_memories_makers(&m, counts);
+                for (size_t i = 4; i < FRAMED_MAKERS; i++)
+                    others += (unsigned)counts[i];
+                printf("%u: %u %u %u %u, %u and %u\n", (unsigned)answer, (unsigned)counts[0], (unsigned)counts[1],
+                       (unsigned)counts[2], (unsigned)counts[3], others, (unsigned)counts[FRAMED_MAKERS]);
+            }
+            int main(void) {
+                static const char source[] = "frame: [ Main := frame: [ start := code { self.n := 5; "
+                                             "self.a := frame: [ b := frame: [] ]; self.t := \"\"; } ] ]";
+                uint32_t steps;
+                size_t bytes;
+                char out[1];
+                try_look("self");
+                try_makers();
+                if (framed_memories_load(&m, source, sizeof source - 1, 6, 0))
+                    return 1;
+                try_makers();
+                framed_memories_run(&m, 9, out, sizeof out, &steps, &bytes);
+                try_look("self.n");
+                try_look("self.t");
+                try_look("^.Main.start");
+                try_look("self");
+                try_look("self.a.b");
+                try_look("self.x");
+                try_look("n");
+                try_makers();
+                m.heap[130] = 4;
+                try_look("self");
+                try_makers();
+                return 0;
+            }
+        "#;
+        fs::write(&file, source).unwrap();
+        let stays = format!("20: 9 9 9 9, {} and 9\n", 9 * (framed::MAKERS - 4));
+        let printed = format!(
+            "20 -7 7\n{stays}0: 3 0 0 0, 0 and 9\n\
+             1 5 7\n2 -7 7\n3 -7 7\n4 -7 0\n4 -7 2\n22 -7 7\n21 -7 7\n0: 3 0 2 0, 0 and 9\n\
+             20 -7 7\n{stays}"
+        );
+        for program in compiled("makers", &file) {
             expect(&program, &[], 0, &printed, "");
         }
     }

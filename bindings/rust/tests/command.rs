@@ -159,7 +159,8 @@ fn run_ends_by_each_number() {
         assert!(out.starts_with(&format!("end {number} steps ")), "{code}: {out}");
         let lines: Vec<&str> = err.lines().collect();
         assert!(lines[0].starts_with("-:1:") && lines[0].ends_with(&format!(": end {number}: {words}")), "{err}");
-        assert!(lines.len() == 3 && lines[2].starts_with(&format!("  {why}")), "{err}");
+        let more = &["  `framed where` tells which instructions made the frames"][usize::from(number != 36)..];
+        assert!(lines[2].starts_with(&format!("  {why}")) && lines[3..] == *more, "{err}");
     }
 }
 
@@ -242,7 +243,8 @@ fn looks() {
         file("looks.framed", start("self.n := -7; self.t := \"a b\"; self.e := \"\"; self.f := frame: [ ];"));
     let end = "end 0 steps 4 frames 4 texts 0\n";
     let out = format!(
-        "{end}self.n integer -7\nself.t text a b\nself.e text \nself.f frame\n^.Main.start code\nself frame\n"
+        "{end}self.n integer -7\nself.t text a b\nself.e text \nself.f frame maker 4\n^.Main.start code\n\
+         self frame maker 0\n"
     );
     let looks = "--look self.n self.t self.e --fuel 9 --look self.f ^.Main.start self";
     is(framed(&format!("run {name} {looks}")), 0, &out, "");
@@ -266,6 +268,113 @@ fn standard_input() {
     let mut command = command(&folder(), "run -");
     let output = command.stdin(File::open(folder()).unwrap()).output().unwrap();
     is(answer(output), 4, "", "standard input: Is a directory\n");
+}
+
+// ---- where
+
+/// A list that is never let go, with two makers of as many frames, and a code that never runs before them.
+const LEAK: &str = "frame: [ never := code { show 1; }, Main := frame: [
+  start := code { self.list := 0; jump ^.more self; },
+  more := code {
+    self.list := frame: [ next := self.list, // one
+                          twin := frame: [] ];
+    self.a := frame: []; self.list.a := self.a;
+    self.b := frame: []; self.list.b := self.b; jump ^.more self; } ] ]";
+
+#[test]
+fn where_frames_have_no_room() {
+    let name = file("leak.framed", LEAK);
+    // 3 at loading, and 4 in each round of 6 steps
+    let out = "\
+end 36 steps 26 frames 19 texts 0
+19 frames reached, made:
+  8 by instruction 4 at leak.framed:4:5: self.list := frame: [ next := self.list, twin := frame: [] ];
+  4 by instruction 5 at leak.framed:6:5: self.a := frame: [];
+  4 by instruction 7 at leak.framed:7:5: self.b := frame: [];
+  3 at loading
+";
+    let said = "\
+leak.framed:4:5: end 36: no room for the frames that the instruction makes
+  self.list := frame: [ next := self.list, twin := frame: [] ];
+  19 frames reached, the instruction makes 2, F is 20
+";
+    is(framed(&format!("where {name} --frames 20")), 1, out, said);
+    is(framed(&format!("where {name} --always --frames 20")), 1, out, said);
+    // counts of two lengths stand one below the other
+    let (status, out, err) = framed_top("where examples/leak.framed");
+    let table = "\
+end 36 steps 508 frames 255 texts 0
+255 frames reached, made:
+  168 by instruction 5 at examples/leak.framed:12:7: self.command := frame: [ name := \"read\", \
+header := frame: [ blocks := 8, length := 16 ] ];
+   84 by instruction 7 at examples/leak.framed:19:7: self.log := frame: [ command := self.command, before := self.log ];
+    3 at loading
+";
+    assert_eq!((status, out.as_str()), (1, table));
+    assert!(err.starts_with("examples/leak.framed:12:7: end 36: "), "{err}");
+}
+
+/// Without an end 36 it is a run, and says how to ask.
+#[test]
+fn where_is_a_run() {
+    let hint = |label| format!("{label}: no end 36; --always says what made the frames however the run stops\n");
+    for arguments in [
+        "examples/drive.framed",
+        "examples/call.framed --frames 6 --texts 0",
+        "examples/drive.framed --fuel 700 --frames 20 --texts 2",
+    ] {
+        let (status, out, err) = framed_top(&format!("run {arguments}"));
+        let label = arguments.split(' ').next().unwrap();
+        is(framed_top(&format!("where {arguments}")), status, &out, &format!("{err}{}", hint(label)));
+        let (always_status, always_out, always_err) = framed_top(&format!("where {arguments} --always"));
+        assert_eq!((always_status, always_err), (status, err));
+        let (count, rows) = always_out.strip_prefix(&out).unwrap().split_once(" frames reached, made:\n").unwrap();
+        assert!(out.contains(&format!(" frames {count} texts ")), "{always_out}");
+        let counts: Vec<u32> =
+            rows.lines().map(|row| row.split_whitespace().next().unwrap().parse().unwrap()).collect();
+        assert!(counts.is_sorted_by(|a, b| a >= b) && counts.iter().sum::<u32>().to_string() == count, "{rows}");
+    }
+    is(
+        framed_input("where -", &start("self.a := 1 / 0;")),
+        1,
+        "end 32 steps 0 frames 3 texts 0\n",
+        &format!("{}{}", framed_input("run -", &start("self.a := 1 / 0;")).2, hint("-")),
+    );
+    // refused as `run` refuses it
+    assert_eq!(framed_input("where - --always", "frame"), framed_input("run -", "frame"));
+    is(framed_input("where - --fuel 0 --always", &start("show 1;")), 3,
+        "end fuel steps 0 frames 3 texts 0\n3 frames reached, made:\n  3 at loading\n",
+        "-: fuel: stopped after 0 steps; --fuel N gives more\n");
+}
+
+/// One frame, and none.
+#[test]
+fn where_little_is_reached() {
+    let code = "self := frame: []; ^.^ := self;";
+    is(
+        framed_input("where --always -", &start(code)),
+        0,
+        "end 0 steps 2 frames 1 texts 0\n1 frame reached, made:\n  1 by instruction 1 at -:1:43: self := frame: [];\n",
+        "",
+    );
+    let code = "^.^ := 1; self := 2;";
+    is(framed_input("where - --always", &start(code)), 0, "end 0 steps 2 frames 0 texts 0\n0 frames reached\n", "");
+}
+
+/// The number is that of a look, and the place that of the instruction which a trace has there.
+#[test]
+fn where_agrees_with_look() {
+    let code = "self.c := code { self.z := frame: [ in := frame: [] ]; }; self.x := frame: [ ]; jump self.c self;";
+    let source = start(code);
+    let (_, out, _) = framed_input("run - --look self.x self.z self.z.in", &source);
+    assert!(out.ends_with("self.x frame maker 3\nself.z frame maker 2\nself.z.in frame maker 2\n"), "{out}");
+    let (status, out, err) = framed_input("where - --always", &source);
+    assert_eq!((status, err.as_str()), (0, ""));
+    let rows = "  3 at loading\n  2 by instruction 2 at -:1:60: self.z := frame: [ in := frame: [] ];\n  \
+                1 by instruction 3 at -:1:101: self.x := frame: [ ];\n";
+    assert!(out.ends_with(rows), "{out}");
+    let (_, out, _) = framed_input("trace -", &source);
+    assert!(out.contains("\n1:60    self.z := ") && out.contains("\n1:101   self.x := "), "{out}");
 }
 
 // ---- check
@@ -441,7 +550,7 @@ fn trace_values_are_looked_at() {
                     assert_eq!(value.as_bytes(), [b"\"", model.look_text(target).as_slice(), b"\""].concat())
                 }
                 Found::Code => assert!(value.starts_with("code at "), "{line}"),
-                Found::Frame => assert_eq!(value, "frame", "{line}"),
+                Found::Frame(_) => assert_eq!(value, "frame", "{line}"),
             }
         }
     }
@@ -645,6 +754,11 @@ fn wrong_usage() {
         ("run a --fuel x", "framed run: --fuel takes a number, 0 to 4294967295, not `x`"),
         ("run a --frames -1", "framed run: --frames takes a number, 3 to 256, not `-1`"),
         ("run a --texts 4294967296", "framed run: --texts takes a number, 0 to 256, not `4294967296`"),
+        ("where", "framed where: no MODEL is given"),
+        ("where a b", "framed where: one MODEL at a time, without `b`"),
+        ("where a --look self", "framed where: no option `--look`"),
+        ("where a --always=1", "framed where: --always takes no value"),
+        ("run a --always", "framed run: no option `--always`"),
         ("run a --look", "framed run: --look takes paths, as `self.faults`"),
         ("run a --look --fuel 3", "framed run: --look takes paths, as `self.faults`"),
         ("run --look self a", "framed run: no MODEL is given"),
@@ -658,7 +772,7 @@ fn wrong_usage() {
 
 #[test]
 fn help() {
-    for command in ["run", "check", "trace", "write", "replay"] {
+    for command in ["run", "where", "check", "trace", "write", "replay"] {
         let (status, out, err) = framed(&format!("{command} --help"));
         assert_eq!((status, err.as_str()), (0, ""));
         for words in [&format!("usage: framed {command} "), "status: ", "examples: "] {
@@ -669,26 +783,35 @@ fn help() {
     assert_eq!((status, err.as_str()), (0, ""));
     let usages = [
         "framed run MODEL",
+        "framed where MODEL",
         "framed check MODEL",
         "framed trace MODEL",
         "framed write MODEL",
         "framed replay SCRIPT",
     ];
-    let options = ["\n  --frames F", "\n  --texts T", "\n  --fuel N", "\n  --look PATH", "status: ", "examples: "];
+    let options = [
+        "\n  --frames F",
+        "\n  --texts T",
+        "\n  --fuel N",
+        "\n  --look PATH",
+        "\n  --always",
+        "status: ",
+        "examples: ",
+    ];
     for words in usages.into_iter().chain(options) {
         assert!(out.contains(words), "{words}");
     }
     assert_eq!(framed("run a b --fuel x --help").1, framed("run --help").1);
     assert_eq!((framed("-h").1, framed("help").1), (framed("--help").1, framed("--help").1));
     file("short.framed", start("show 1; self.a := 2;"));
-    is(framed("run short.framed --fuel=1 --look=self"), 3, "1\nend fuel steps 1 frames 3 texts 0\nself frame\n",
+    is(framed("run short.framed --fuel=1 --look=self"), 3, "1\nend fuel steps 1 frames 3 texts 0\nself frame maker 0\n",
         "short.framed: fuel: stopped after 1 step; --fuel N gives more\n");
     is(framed("--version"), 0, concat!("framed ", env!("CARGO_PKG_VERSION"), "\n"), "");
 }
 
 #[test]
 fn no_file() {
-    for command in ["run", "check", "trace", "write", "replay"] {
+    for command in ["run", "where", "check", "trace", "write", "replay"] {
         let said = "absent: No such file or directory\n";
         is(framed(&format!("{command} absent")), 4, "", said);
         is(framed(&format!("{command} .")), 4, "", ".: Is a directory\n");
@@ -696,7 +819,7 @@ fn no_file() {
 }
 
 /// What writes a lot or little, for each command.
-fn writers() -> [&'static str; 7] {
+fn writers() -> [&'static str; 8] {
     // tests run side by side
     static WRITTEN: Once = Once::new();
     WRITTEN.call_once(|| {
@@ -705,6 +828,7 @@ fn writers() -> [&'static str; 7] {
     });
     [
         "run writes.framed",
+        "where writes.framed",
         "check writes.framed",
         "trace writes.framed",
         "write writes.framed",

@@ -7,7 +7,7 @@ mod common;
 use common::blocks::Compared;
 use common::{damage, damaged_source, long_source, other_length, path_text, random_bytes, rounds};
 use common::{stored_sources, Random, Writer};
-use framed::{machine, plain, Memories, Refusal, RunReport};
+use framed::{machine, plain, Memories, Refusal, RunReport, MAKERS};
 
 /// The same memories twice, one for each implementation.
 struct Pair {
@@ -79,6 +79,17 @@ impl Pair {
         );
     }
 
+    fn makers(&self) {
+        let (a, b) = (&self.plain, &self.proved);
+        let (mut counts, mut proved_counts) = ([7; MAKERS], [7; MAKERS]);
+        assert_eq!(
+            plain::makers(&a.program, &a.heap, &a.literals, &a.texts, &mut counts),
+            machine::makers(&b.program, &b.heap, &b.literals, &b.texts, &mut proved_counts),
+            "makers"
+        );
+        assert_eq!(counts, proved_counts, "makers");
+    }
+
     fn write(&self, space: usize) -> Result<usize, Refusal> {
         let (a, b) = (&self.plain, &self.proved);
         let mut text = vec![0xa5; space];
@@ -102,10 +113,11 @@ impl Pair {
     /// A list of calls.
     fn calls(&mut self, count: usize, random: &mut Random) {
         for _ in 0..count {
-            match random.below(7) {
+            match random.below(8) {
                 0 => self.collect(),
                 1 => self.look(&path_text(random)),
                 2 => self.writes(random),
+                3 => self.makers(),
                 _ => {
                     let fuel = random.pick(&[0, 1, 2, 7, 40, 300, 5_000]);
                     let space = random.pick(&[0, 1, 4, 20, 66, 500]);
@@ -136,6 +148,7 @@ fn stored() {
         let _ = pair.run(100_000, 4_096);
         pair.collect();
         pair.look(b"self");
+        pair.makers();
         pair.writes(&mut random);
         let (frames, texts) = limits(&mut random);
         let _ = pair.load(&source, frames, texts);
@@ -199,6 +212,7 @@ fn damaged_memories() {
             pair = Pair::new(sound.clone());
             pair.damage(&mut random);
             pair.writes(&mut random);
+            pair.makers();
             pair.calls(2, &mut random);
         }
     }
@@ -217,6 +231,7 @@ fn memories_of_other_lengths() {
         assert_eq!(pair.run(10, 10), Err(Refusal(20)));
         pair.collect();
         pair.look(b"self");
+        pair.makers();
         assert_eq!(pair.write(random.pick(&[0, 4_096])), Err(Refusal(20)));
     }
 }

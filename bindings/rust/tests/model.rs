@@ -64,6 +64,18 @@ fn text_and_back() -> Result<(), Box<dyn Error>> {
     Ok(())
 }
 
+/// A frame has its maker, and the makers of all that are reached are counted.
+#[test]
+fn makers() {
+    let source = "frame: [ Main := frame: [ start := code {
+        self.a := frame: []; self.b := frame: [ c := frame: [] ]; } ] ]";
+    let mut model = Model::load(source.as_bytes(), 10, 4).unwrap();
+    assert_eq!(model.makers()[..3], [3, 0, 0]);
+    model.run(9, &mut []);
+    assert_eq!((model.look("self.b.c"), model.look("^.Main")), (Ok(Found::Frame(2)), Ok(Found::Frame(0))));
+    assert_eq!((&model.makers()[..4], model.makers().len()), (&[3, 1, 2, 0][..], framed::MAKERS));
+}
+
 /// Memories that are not whole come back as they were.
 #[test]
 fn memories_that_are_not_whole() {

@@ -132,7 +132,7 @@ fn printed_run_by_calls() {
     assert_eq!(look(b"self.n"), Ok(framed::Found::Integer(7)));
     assert_eq!(look(b" self . t // a text"), Ok(framed::Found::Text));
     assert_eq!(look(b"^.Main.start"), Ok(framed::Found::Code));
-    assert_eq!(look(b"^"), Ok(framed::Found::Frame));
+    assert_eq!(look(b"^"), Ok(framed::Found::Frame(0)));
     assert_eq!(look(b"^.^"), Err(Refusal(21)));
     assert_eq!(look(b"self.frame"), Err(Refusal(21)));
     assert_eq!(look(b"self.absent"), Err(Refusal(22)));

@@ -7,7 +7,7 @@ mod common;
 
 use common::{code_chain, compare_next, comparing, damage, damaged_source, deep, long_source, other_length};
 use common::{path_text, random_bytes, rounds, stored_sources, Random, Writer};
-use framed::{plain, Memories, TEXT_BUFFER};
+use framed::{plain, Memories, MAKERS, TEXT_BUFFER};
 use std::arch::asm;
 use std::collections::BTreeMap;
 use std::path::Path;
@@ -19,6 +19,7 @@ extern "C" {
     fn framed_collect();
     fn framed_look();
     fn framed_look_text();
+    fn framed_makers();
     fn framed_write();
 }
 
@@ -90,8 +91,10 @@ impl Stack {
         let fuel = random.pick(&[1, 7, 200, 3_000]);
         self.call(names.run, framed_run, &[&lent(m)[..], &[fuel], &out, &[first, second]].concat());
         self.call("collect", framed_collect, &[&lent(m)[..], &[first, second]].concat());
-        self.call("look", framed_look, &[&lent(m)[..], &path, &[first]].concat());
+        self.call("look", framed_look, &[&lent(m)[..], &path, &[first, second]].concat());
         self.call("look_text", framed_look_text, &[&lent(m)[..], &path, &out].concat());
+        let mut counts = [0u32; MAKERS];
+        self.call("makers", framed_makers, &[&lent(m)[..], &part(&mut counts)[..1]].concat());
         let mut text = vec![0u8; TEXT_BUFFER];
         self.call(names.write, framed_write, &[&lent(m)[..], &part(&mut text), &[first]].concat());
     }
@@ -278,7 +281,7 @@ fn figures() {
         };
         assert!(most <= figure && figure < most + 1_024, "{name} takes {most} bytes, the header says {figure}");
     }
-    for call in ["run", "collect", "look", "look_text", "write"] {
+    for call in ["run", "collect", "look", "look_text", "makers", "write"] {
         assert_eq!(readme(call), header(call), "README, {call}");
     }
     assert_eq!(readme("load"), [header("load")[0], whole_words(taken["load"].0), level], "README, load");

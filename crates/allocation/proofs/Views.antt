@@ -9,7 +9,7 @@ use lib.ListN.{length}
 use Rattle.words.specs.Words.{pick}
 use Rattle.framed.specs.Values.{new-frame}
 use Rattle.bounded.specs.Views.{where-used, frame-at, text-at, add-if, defined-below, used, entries, frames-used, texts-used}
-use Rattle.heap.specs.Words.{frame-used, text-used}
+use Rattle.heap.specs.Words.{frame-used, maker-at, text-used}
 use Rattle.heap.specs.Lists.{passing}
 use Rattle.heap.specs.Held.{heap-held, slots-held, text-held, frames-held, texts-held, frames-in-use, texts-in-use}
 use Rattle.heap.proofs.Lists.{elem-past}
@@ -21,8 +21,8 @@ nothing-shown true = refl
 nothing-shown false = refl
 
 module _ (h t : List ℕ) where
-  -- a frame in use shows its slots, one that is not shows nothing
-  pub shows-frame : (f : ℕ) → f < 256 → frame-used h f ≡ true → frame-at (view-held h t) f ≡ some (new-frame (slots-held h f))
+  -- a frame in use shows its maker and slots, one that is not shows nothing
+  pub shows-frame : (f : ℕ) → f < 256 → frame-used h f ≡ true → frame-at (view-held h t) f ≡ some (new-frame (maker-at h f) (slots-held h f))
   unfolding frame-at view-held heap-held
   shows-frame f lt e = rw (e, frame-found h f lt) (ap some (frame-of-used h f e))
 
@@ -61,7 +61,7 @@ module _ (h t : List ℕ) where
   pub frames-counted : length (frames-in-use h) ≡ frames-used (view-held h t)
   unfolding frames-used used entries frames-in-use
   frames-counted =
-      ap length (sym (counted (frame-at (view-held h t)) (λ f. new-frame (slots-held h f)) (frame-used h) 256 (shows-frame h t) (shows-no-frame h t)))
+      ap length (sym (counted (frame-at (view-held h t)) (λ f. new-frame (maker-at h f) (slots-held h f)) (frame-used h) 256 (shows-frame h t) (shows-no-frame h t)))
 
   pub texts-counted : length (texts-in-use h) ≡ texts-used (view-held h t)
   unfolding texts-used used entries texts-in-use

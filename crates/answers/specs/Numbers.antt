@@ -1,6 +1,6 @@
 -- Document 01's and 02's numbers of answers, for programs and for C. What the document numbers keeps its number, that of `framed`'s Answers. What it has a word for gets one
 -- here: 'fuel' is 1 and 'output' 2; a collect or a write that is not refused is 0; the kinds that look gives are 1 to 4, in the document's order. Load's numbers are
--- `framed`'s `load-number`. Assumes nothing.
+-- `framed`'s `load-number`, those of makers its `makers-number`. Assumes nothing.
 use mathlib.Core.List.{[]}
 use Prim.Native.Nat.{ℕ}
 use Rattle.framed.specs.declared.CollectAnswer.{CollectAnswer}
@@ -31,7 +31,7 @@ abbrev pub kind-number : Look → ℕ
 kind-number (Look.integer z) = 1
 kind-number Look.text = 2
 kind-number Look.code = 3
-kind-number Look.frame = 4
+kind-number (Look.frame n) = 4
 kind-number (Look.refused n) = n
 
 abbrev pub look-number : LookAnswer → ℕ

@@ -2,11 +2,12 @@
 use framed::CollectAnswer;
 use framed::LoadAnswer;
 use framed::LookAnswer;
+use framed::MakersAnswer;
 use framed::RunAnswer;
 use framed::Stop;
 use framed::WriteAnswer;
 ghost use mathlib.Core.Path.{_≡_};
-ghost use Rattle.framed.specs.Answers.{load-number, stop-word};
+ghost use Rattle.framed.specs.Answers.{load-number, stop-word, makers-number};
 ghost use Rattle.answers.specs.Numbers.{stopped-number, run-number, collect-number, look-number, write-number};
 
 pub fn load_number(a: LoadAnswer) -> u32
@@ -74,7 +75,7 @@ pub fn look_number(a: LookAnswer) -> u32
         LookAnswer::Integer(_n) => 1,
         LookAnswer::Text => 2,
         LookAnswer::Code => 3,
-        LookAnswer::Frame => 4,
+        LookAnswer::Frame(_n) => 4,
         LookAnswer::NotWellFormed => 20,
         LookAnswer::NotPath => 21,
         LookAnswer::Undefined => 22,
@@ -88,5 +89,14 @@ pub fn write_number(a: WriteAnswer) -> u32
         WriteAnswer::Written(_n) => 0,
         WriteAnswer::NotWellFormed => 20,
         WriteAnswer::ShortBuffer => 23,
+    }
+}
+
+pub fn makers_number(a: MakersAnswer) -> u32
+    ensures { λ r. ⌜ r ≡ makers-number a ⌝ }
+{
+    match a {
+        MakersAnswer::Counted => 0,
+        MakersAnswer::NotWellFormed => 20,
     }
 }

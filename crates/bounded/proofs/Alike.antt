@@ -10,7 +10,7 @@ use Rattle.framed.specs.declared.Value.{Value}
 use Rattle.framed.specs.declared.Text.{Text}
 use Rattle.framed.specs.Common.{member}
 use Rattle.framed.specs.Program.{Program}
-use Rattle.framed.specs.Values.{Slot, Frame, with-slots}
+use Rattle.framed.specs.Values.{Slot, Frame, new-frame, with-slots}
 use Rattle.framed.specs.Reach.{slot-value, values-in, roots, reached-frames, reached-texts, Reachable}
 use Rattle.framed.specs.Machine.{State}
 use Rattle.framed.specs.Alike.{Alike, Renaming, renamed, renamed-slot, renamed-frame, InReach}
@@ -96,8 +96,9 @@ module _ {S : Type 0} (𝓞 : Store S) (p : Program) (𝓛 : Laws 𝓞 p) (F T :
   frame-alike n d =
       let l = A .heaps .frame-link (ρ .frame n) n (frame-related n d) in
       ap (renamed-frame ρ) (frame-read (all-used (s .heap)) n (l .right) (l .at-right))
-      ∙ ap (λ (ss : List Slot). some (with-slots (l .right) ss)) (slots-renamed (l .alike)
+      ∙ ap₂ (λ (ss : List Slot) (m : ℕ). some (new-frame m ss)) (slots-renamed (l .alike)
       (λ w i. Reachable.in-slot d (subst (λ (ws : List Value). List·Memᴰ w ws) (sym (values-at (all-used (s .heap)) n (l .right) (l .at-right))) i)))
+      (sym (l .same-maker))
       ∙ sym (frame-read H (ρ .frame n) (l .left) (l .at-left))
 
   text-alike : (k : ℕ) → InReach s (Value.Text (Text.Made k)) → getElem? (s .heap .texts) k ≡ getElem? (H .heap .texts) (ρ .text k)
@@ -114,6 +115,7 @@ module _ {S : Type 0} (𝓞 : Store S) (p : Program) (𝓛 : Laws 𝓞 p) (F T :
         A .heaps .text-right (ρ .text j) j k (text-related j c) (subst (λ (n : ℕ). R .text n k) (sym e) (text-related k d));
     same-end = sym (A .end-mark);
     same-remaining = sym (A .remaining);
+    same-next = sym (A .next);
     self-alike = value-renamed (A .self) Reachable.self;
     program-alike = value-renamed (A .program) Reachable.program;
     frames-alike = frame-alike;
@@ -207,6 +209,7 @@ module _ {S : Type 0} (𝓞 : Store S) (p : Program) (𝓛 : Laws 𝓞 p) (fits 
         at-left = f .in-use;
         at-right = sym (heap-frame (s .heap) n) ∙ f .in-s;
         alike = slots-related (f .frame .slots) (λ v i. Reachable.in-slot d (subst (λ (vs : List Value). List·Memᴰ v vs) (sym (values-found f)) i));
+        same-maker = refl;
       }
 
   text-linked : (k : ℕ) → InReach s (Value.Text (Text.Made k)) → TextsLinked K (all-used (s .heap)) (σ .text k) k
@@ -238,6 +241,7 @@ module _ {S : Type 0} (𝓞 : Store S) (p : Program) (𝓛 : Laws 𝓞 p) (fits 
     self = subst (λ (v : Value). ValueRel Q v (s .self)) (a .self-alike) (value-related (s .self) Reachable.self);
     program = subst (λ (v : Value). ValueRel Q v (s .program)) (a .program-alike) (value-related (s .program) Reachable.program);
     remaining = sym (a .same-remaining);
+    next = sym (a .same-next);
     end-mark = sym (a .same-end);
   }
 
@@ -273,6 +277,7 @@ alike-itself s = record {
   texts-one-to-one = λ j k c d e. e;
   same-end = refl;
   same-remaining = refl;
+  same-next = refl;
   self-alike = renamed-same (s .self);
   program-alike = renamed-same (s .program);
   frames-alike = λ n d. frame-same (getElem? (s .heap .frames) n);

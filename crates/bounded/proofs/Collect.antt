@@ -156,6 +156,7 @@ module _ {S : Type 0} (𝓞 : Store S) (p : Program) (𝓛 : Laws 𝓞 p) (fits 
       self = valid-collected (collecting .1) Reachable.self (ok .self);
       program = valid-collected (collecting .1) Reachable.program (ok .program);
       remaining = ok .remaining;
+      next = ok .next;
       mark = ok .mark;
       frames-few = omega (arith, frames-exactly, frames-at-least, ok .frames-few);
       texts-few = omega (arith, texts-exactly, texts-at-least, ok .texts-few);
@@ -210,6 +211,7 @@ module _ {S : Type 0} (𝓞 : Store S) (p : Program) (𝓛 : Laws 𝓞 p) (fits 
       self = value-kept (A .relation) (view (b .store)) (b .self) (b .program) (A .self) Reachable.self;
       program = value-kept (A .relation) (view (b .store)) (b .self) (b .program) (A .program) Reachable.program;
       remaining = A .remaining;
+      next = A .next;
       end-mark = A .end-mark;
     }
 

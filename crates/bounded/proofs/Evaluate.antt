@@ -81,10 +81,10 @@ bit-rel {R} a b e = subst (λ (c : Bool). ValueRel R (bit a) (bit c)) e (same a)
     same false = integers
 
 -- the unbounded machine's operation between two bases
-operation-is : (cs : Constants) (Σ Π : Value) (o : Operator) (a b : Base Path) (h : Heap) →
-    M.evaluate cs Σ Π (Expression.operation o a b) h ≡ keep (operation-result cs Σ Π h o a b) h
+operation-is : (cs : Constants) (m : ℕ) (Σ Π : Value) (o : Operator) (a b : Base Path) (h : Heap) →
+    M.evaluate cs m Σ Π (Expression.operation o a b) h ≡ keep (operation-result cs Σ Π h o a b) h
 unfolding M.evaluate operation-result M._>>=_ keep
-operation-is cs Σ Π o a b h = step (base-value Σ Π (h .frames) a) (base-value Σ Π (h .frames) b)
+operation-is cs m Σ Π o a b h = step (base-value Σ Π (h .frames) a) (base-value Σ Π (h .frames) b)
   where
     step : (x y : Result Value) →
         M._>>=_ x (λ v. M._>>=_ y (λ w. operate cs o v w h)) ≡ keep (M._>>=_ x (λ v. M._>>=_ y (λ w. operated cs (h .texts) o v w))) h
@@ -145,9 +145,9 @@ module _ {S : Type 0} (𝓞 : Store S) (p : Program) (𝓛 : Laws 𝓞 p) (fits 
   abbrev pub Fills : (n c k : ℕ) (f : Frame) (s : S) (h : Heap) (R : Rel) (b : ℕ) (s′ : S) (o : Result M.Filled) → Type 1
   Fills n c k f s h R b s′ o = Ends b o ⊎ Filled n c k f s h R b s′ o
 
-  -- the state before the instruction, in which the check reads
-  module _ (R₀ : Rel) (H₀ K₀ : View) (S₀ : Simulates R₀ H₀ K₀) (Σ Σ′ Π Π′ : Value) (rΣ : ValueRel R₀ Σ Σ′) (rΠ : ValueRel R₀ Π Π′)
-      (vΣ : Valid p H₀ Σ) (vΠ : Valid p H₀ Π) where
+  -- the number of the instruction, and the state before it, in which the check reads
+  module _ (maker : ℕ) (maker-fits : maker ≤ length (p .instructions)) (R₀ : Rel) (H₀ K₀ : View) (S₀ : Simulates R₀ H₀ K₀)
+      (Σ Σ′ Π Π′ : Value) (rΣ : ValueRel R₀ Σ Σ′) (rΠ : ValueRel R₀ Π Π′) (vΣ : Valid p H₀ Σ) (vΠ : Valid p H₀ Π) where
     abbrev cs : Constants
     cs = constants p
 
@@ -207,7 +207,7 @@ module _ {S : Type 0} (𝓞 : Store S) (p : Program) (𝓛 : Laws 𝓞 p) (fits 
       }
 
       base-out : (b : Base Path) → BaseFits p b →
-          Evaluates n c s h R (check-expression cs Σ Π (H₀ .heap) (Expression.base b)) (B.evaluate 𝓞 cs Σ Π (Expression.base b) s) (M.evaluate cs Σ′ Π′ (Expression.base b) h)
+          Evaluates n c s h R (check-expression cs Σ Π (H₀ .heap) (Expression.base b)) (B.evaluate 𝓞 cs maker Σ Π (Expression.base b) s) (M.evaluate cs maker Σ′ Π′ (Expression.base b) h)
       unfolding check-expression B.evaluate M.evaluate M._>>=_ end-of value-given
       base-out b f = rw (base-stable b) (step (base-here b) (valid-here b f))
         where
@@ -217,7 +217,7 @@ module _ {S : Type 0} (𝓞 : Store S) (p : Program) (𝓛 : Laws 𝓞 p) (fits 
           step (both-give r) (reads a) = inr (unchanged refl refl r a)
 
       not-out : (b : Base Path) → BaseFits p b →
-          Evaluates n c s h R (check-expression cs Σ Π (H₀ .heap) (Expression.not b)) (B.evaluate 𝓞 cs Σ Π (Expression.not b) s) (M.evaluate cs Σ′ Π′ (Expression.not b) h)
+          Evaluates n c s h R (check-expression cs Σ Π (H₀ .heap) (Expression.not b)) (B.evaluate 𝓞 cs maker Σ Π (Expression.not b) s) (M.evaluate cs maker Σ′ Π′ (Expression.not b) h)
       unfolding check-expression B.evaluate M.evaluate M._>>=_ end-of value-given
       not-out b f = rw (base-stable b) (step (base-here b))
         where
@@ -284,10 +284,10 @@ module _ {S : Type 0} (𝓞 : Store S) (p : Program) (𝓛 : Laws 𝓞 p) (fits 
 
     operation-out : (s : S) (h : Heap) (R : Rel) (n : ℕ) (o : Operator) (a b : Base Path) → BaseFits p a → BaseFits p b → Here s h R n (is-join o) →
         Evaluates n (is-join o) s h R (check-expression cs Σ Π (H₀ .heap) (Expression.operation o a b))
-        (B.evaluate 𝓞 cs Σ Π (Expression.operation o a b) s) (M.evaluate cs Σ′ Π′ (Expression.operation o a b) h)
+        (B.evaluate 𝓞 cs maker Σ Π (Expression.operation o a b) s) (M.evaluate cs maker Σ′ Π′ (Expression.operation o a b) h)
     unfolding check-expression B.evaluate
     operation-out s h R n o a b f g H =
-        rw (operation-is cs Σ′ Π′ o a b h, operation-rel (check-side s h R n (is-join o) H) cs rΣ rΠ o a b, ← operation-rel (both s h R n (is-join o) H) cs rΣ rΠ o a b)
+        rw (operation-is cs maker Σ′ Π′ o a b h, operation-rel (check-side s h R n (is-join o) H) cs rΣ rΠ o a b, ← operation-rel (both s h R n (is-join o) H) cs rΣ rΠ o a b)
         (product-out s h R n (is-join o) H
         (operation-small 𝓞 p 𝓛 fits s (H .well-formed) Σ Π (valid-kept (extends-keeps (H .ext)) vΣ) (valid-kept (extends-keeps (H .ext)) vΠ) o a b f g))
 
@@ -392,13 +392,13 @@ module _ {S : Type 0} (𝓞 : Store S) (p : Program) (𝓛 : Laws 𝓞 p) (fits 
       abbrev kE : ℕ
       kE = length (h .frames)
 
-      claimed : 𝓛 .WellFormed (claim-frame s) × FrameClaimed (view s) (view (claim-frame s)) kW
-      claimed = 𝓛 .claim-frame-is s (H .well-formed) (omega (arith, H .room))
+      claimed : 𝓛 .WellFormed (claim-frame s maker) × FrameClaimed (view s) (view (claim-frame s maker)) kW maker
+      claimed = 𝓛 .claim-frame-is s (H .well-formed) (omega (arith, H .room)) maker maker-fits
 
       free : frame-at (view s) kW ≡ none
       free = claimed .1 .free
 
-      w : FrameWritten (view s) (view (claim-frame s)) kW (new-frame [])
+      w : FrameWritten (view s) (view (claim-frame s maker)) kW (new-frame maker [])
       w = claimed .1 .written
 
       out-w : (j : ℕ) → R .frame kW j → ⊥
@@ -407,22 +407,22 @@ module _ {S : Type 0} (𝓞 : Store S) (p : Program) (𝓛 : Laws 𝓞 p) (fits 
       out-e : (j : ℕ) → R .frame j kE → ⊥
       out-e j r = let l = H .heaps .frame-link j kE r in none≢some (sym (frame-end h) ∙ l .at-right)
 
-      frames-claim : frames-used (view (claim-frame s)) ≡ suc (frames-used (view s))
-      frames-claim = claimed-frames (view s) (view (claim-frame s)) kW (claimed .1)
+      frames-claim : frames-used (view (claim-frame s maker)) ≡ suc (frames-used (view s))
+      frames-claim = claimed-frames (view s) (view (claim-frame s maker)) kW maker (claimed .1)
 
-      texts-claim : texts-used (view (claim-frame s)) ≡ texts-used (view s)
-      texts-claim = written-texts (view s) (view (claim-frame s)) kW (new-frame []) w
+      texts-claim : texts-used (view (claim-frame s maker)) ≡ texts-used (view s)
+      texts-claim = written-texts (view s) (view (claim-frame s maker)) kW (new-frame maker []) w
 
-      claim-ext : Extends (view s) (view (claim-frame s))
+      claim-ext : Extends (view s) (view (claim-frame s maker))
       claim-ext = written-extends free w
 
-      grown : Extends (all-used h) (all-used (with-frame h))
-      grown = written-extends (frame-end h) (new-written h)
+      grown : Extends (all-used h) (all-used (with-frame maker h))
+      grown = written-extends (frame-end h) (new-written maker h)
 
-      claim-here : Here (claim-frame s) (with-frame h) R n c
+      claim-here : Here (claim-frame s maker) (with-frame maker h) R n c
       claim-here = record {
         well-formed = claimed .0;
-        heaps = simulates-op (write-outside (simulates-op (write-outside (H .heaps) out-w w)) out-e (new-written h));
+        heaps = simulates-op (write-outside (simulates-op (write-outside (H .heaps) out-w w)) out-e (new-written maker h));
         up = H .up;
         ext = extends-trans (H .ext) claim-ext;
         ext′ = extends-trans (H .ext′) grown;
@@ -430,7 +430,7 @@ module _ {S : Type 0} (𝓞 : Store S) (p : Program) (𝓛 : Laws 𝓞 p) (fits 
         text-room = omega (arith, texts-claim, H .text-room);
       }
 
-      claim-open : Open kW (new-frame []) (claim-frame s) R ss
+      claim-open : Open kW (new-frame maker []) (claim-frame s maker) R ss
       unfolding in-slots
       claim-open = record {
         holds = w .here;
@@ -440,21 +440,21 @@ module _ {S : Type 0} (𝓞 : Store S) (p : Program) (𝓛 : Laws 𝓞 p) (fits 
         new = λ y i. refl;
       }
 
-      frame-out : (b : ℕ) (s′ : S) (o : Result M.Filled) → Fills n c kW (new-frame []) (claim-frame s) (with-frame h) R b s′ o →
+      frame-out : (b : ℕ) (s′ : S) (o : Result M.Filled) → Fills n c kW (new-frame maker []) (claim-frame s maker) (with-frame maker h) R b s′ o →
           Evaluates (suc n) c s h R b (record { value = Value.Frame kW; store = s′ })
-          (M._>>=_ o (λ r. gives (record { value = Value.Frame kE; heap = with-frames (set (r .heap .frames) kE (new-frame (r .slots))) (r .heap) })))
+          (M._>>=_ o (λ r. gives (record { value = Value.Frame kE; heap = with-frames (set (r .heap .frames) kE (new-frame maker (r .slots))) (r .heap) })))
       unfolding M._>>=_
       frame-out b s′ o (inl z) = inl (z .0, z .1, rw (z .2))
       frame-out b s′ o (inr D) = inr (record {
         passes = D .passes;
         value = Value.Frame kE;
-        heap = with-frames (set (D .heap .frames) kE (new-frame (D .value))) (D .heap);
+        heap = with-frames (set (D .heap .frames) kE (new-frame maker (D .value))) (D .heap);
         result-is = rw (D .result-is);
         R′ = With (D .R′) kW kE;
         up = up-trans (D .up) (up-with (D .R′) kW kE);
         fresh = record { new-frames = fresh′; new-texts = fresh-all .new-texts };
         well-formed = D .well-formed;
-        heaps = add-frame (simulates-op (write-outside (simulates-op (D .heaps)) not-e wE)) not-w not-e (D .holds) (wE .here) (D .alike);
+        heaps = add-frame (simulates-op (write-outside (simulates-op (D .heaps)) not-e wE)) not-w not-e (D .holds) (wE .here) (D .alike) refl;
         alike = frames (inr (refl, refl));
         valid = valid-frame (D .holds);
         ext = record {
@@ -468,8 +468,8 @@ module _ {S : Type 0} (𝓞 : Store S) (p : Program) (𝓛 : Laws 𝓞 p) (fits 
         taken = record { frames = omega (arith, D .taken .frames, frames-claim); texts = omega (arith, D .taken .texts, texts-claim) };
       })
         where
-          wE : FrameWritten (all-used (D .heap)) (all-used (with-frames (set (D .heap .frames) kE (new-frame (D .value))) (D .heap))) kE (new-frame (D .value))
-          wE = set-written (D .heap) kE (new-frame (D .value)) (new-frame []) (D .ext′ .old-frame kE (new-frame []) (new-written h .here))
+          wE : FrameWritten (all-used (D .heap)) (all-used (with-frames (set (D .heap .frames) kE (new-frame maker (D .value))) (D .heap))) kE (new-frame maker (D .value))
+          wE = set-written (D .heap) kE (new-frame maker (D .value)) (new-frame maker []) (D .ext′ .old-frame kE (new-frame maker []) (new-written maker h .here))
 
           fresh-all : Fresh R (D .R′) (view s) (all-used h)
           fresh-all = fresh-trans (same-fresh R (view s) (all-used h)) (D .fresh) (extends-keeps claim-ext) (extends-keeps grown)
@@ -482,7 +482,7 @@ module _ {S : Type 0} (𝓞 : Store S) (p : Program) (𝓛 : Laws 𝓞 p) (fits 
           not-w j r = ⊎-elim (λ q. out-w j q) (λ e. none≢some (sym (e .0) ∙ w .here)) (D .fresh .new-frames kW j r)
 
           not-e : (j : ℕ) → D .R′ .frame j kE → ⊥
-          not-e j r = ⊎-elim (λ q. out-e j q) (λ e. none≢some (sym (e .1) ∙ new-written h .here)) (D .fresh .new-frames j kE r)
+          not-e j r = ⊎-elim (λ q. out-e j q) (λ e. none≢some (sym (e .1) ∙ new-written maker h .here)) (D .fresh .new-frames j kE r)
 
     -- ---- Expressions and slots
 
@@ -490,18 +490,18 @@ module _ {S : Type 0} (𝓞 : Store S) (p : Program) (𝓛 : Laws 𝓞 p) (fits 
       unfolding check-expression B.evaluate M.evaluate frame-literals join-signs
 
       pub evaluate-out : (e : Expression Path) → ExpressionFits p e → (s : S) (h : Heap) (R : Rel) → Here s h R (frame-literals e) (join-signs e) →
-          Evaluates (frame-literals e) (join-signs e) s h R (check-expression cs Σ Π (H₀ .heap) e) (B.evaluate 𝓞 cs Σ Π e s) (M.evaluate cs Σ′ Π′ e h)
+          Evaluates (frame-literals e) (join-signs e) s h R (check-expression cs Σ Π (H₀ .heap) e) (B.evaluate 𝓞 cs maker Σ Π e s) (M.evaluate cs maker Σ′ Π′ e h)
       evaluate-out (Expression.base b) t s h R H = base-out s h R 0 0 H b t
       evaluate-out (Expression.not b) t s h R H = not-out s h R 0 0 H b t
       evaluate-out (Expression.operation o a b) t s h R H = operation-out s h R 0 o a b (t .0) (t .1) H
       evaluate-out (Expression.frame ss) t s h R H =
           frame-out (frame-literals-in ss) (join-signs-in ss) ss (t .0) s h R H _ _ _
-          (fill-out ss (t .1) (next-frame s) (new-frame []) (claim-frame s) (with-frame h) R
+          (fill-out ss (t .1) (next-frame s) (new-frame maker []) (claim-frame s maker) (with-frame maker h) R
           (claim-here (frame-literals-in ss) (join-signs-in ss) ss (t .0) s h R H) (claim-open (frame-literals-in ss) (join-signs-in ss) ss (t .0) s h R H))
 
       pub fill-out : (ss : Slots Path) → SlotsFit p ss → (k : ℕ) (f : Frame) (s : S) (h : Heap) (R : Rel) → Here s h R (frame-literals-in ss) (join-signs-in ss) →
           Open k f s R ss →
-          Fills (frame-literals-in ss) (join-signs-in ss) k f s h R (check-slots cs Σ Π (H₀ .heap) ss) (B.fill 𝓞 cs Σ Π k ss s) (M.fill cs Σ′ Π′ ss h)
+          Fills (frame-literals-in ss) (join-signs-in ss) k f s h R (check-slots cs Σ Π (H₀ .heap) ss) (B.fill 𝓞 cs maker Σ Π k ss s) (M.fill cs maker Σ′ Π′ ss h)
       fill-out Slots.no-slots t k f s h R H P = inr (record {
         passes = refl;
         value = [];
@@ -521,6 +521,6 @@ module _ {S : Type 0} (𝓞 : Store S) (p : Program) (𝓛 : Laws 𝓞 p) (fits 
         taken = record { frames = omega arith; texts = omega arith };
       })
       fill-out (Slots.slot x e ss) t k f s h R H P =
-          slot-out x (frame-literals e) (frame-literals-in ss) (join-signs e) (join-signs-in ss) k f ss e s h R _ _ _ _ _ (λ g. M.fill cs Σ′ Π′ ss g) (t .0) (t .1) H P
+          slot-out x (frame-literals e) (frame-literals-in ss) (join-signs e) (join-signs-in ss) k f ss e s h R _ _ _ _ _ (λ g. M.fill cs maker Σ′ Π′ ss g) (t .0) (t .1) H P
           (evaluate-out e (t .2) s h R (record { well-formed = H .well-formed; heaps = H .heaps; up = H .up; ext = H .ext; ext′ = H .ext′; room = omega (arith, H .room); text-room = omega (arith, H .text-room) }))
           (λ D here′ opened. fill-out ss (t .3) k _ _ (D .heap) (D .R′) here′ opened)

@@ -9,4 +9,5 @@ pub mod UnboundedRuns
 pub mod Step
 pub mod Runs
 pub mod Alike
+pub mod Makers
 pub mod Theorems

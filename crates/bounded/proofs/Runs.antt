@@ -109,6 +109,7 @@ module _ {S : Type 0} (𝓞 : Store S) (p : Program) (F T : ℕ) where
         self = A .well-formed .self;
         program = A .well-formed .program;
         remaining = A .well-formed .remaining;
+        next = A .well-formed .next;
         mark = inr l;
         frames-few = A .well-formed .frames-few;
         texts-few = A .well-formed .texts-few;
@@ -117,6 +118,7 @@ module _ {S : Type 0} (𝓞 : Store S) (p : Program) (F T : ℕ) where
       self = A .self;
       program = A .program;
       remaining = A .remaining;
+      next = A .next;
       end-mark = refl;
     }
 

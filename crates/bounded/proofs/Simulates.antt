@@ -15,14 +15,14 @@ use Rattle.framed.specs.declared.Value.{Value}
 use Rattle.framed.specs.declared.Text.{Text}
 use Rattle.framed.specs.Common.{same}
 use Rattle.framed.specs.Tokens.{Operator}
-use Rattle.framed.specs.Tree.{Base, Code}
+use Rattle.framed.specs.Tree.{Base}
 use Rattle.framed.specs.Paths.{Path, from-self, from-program}
 use Rattle.framed.specs.Values.{Slot, Frame, new-frame, text-bytes, shown, join-bytes, truth}
 use Rattle.framed.specs.Equality.{Constants, equal-values}
 use Rattle.framed.specs.Fetch.{in-slots, in-frame, frame-of, get, fetch}
 use Rattle.framed.specs.Fetch as F
 use Rattle.framed.specs.Reach.{slot-value, values-in, Reachable}
-use Rattle.framed.specs.Machine.{Result, gives, ends, defined, set-slot, holds, frame-number, base-value, integer-in, code-of}
+use Rattle.framed.specs.Machine.{Result, gives, ends, defined, set-slot, holds, frame-number, base-value, integer-in, code-number}
 use Rattle.framed.specs.Machine as M
 use Rattle.bounded.specs.Views.{View, frame-at, text-at, FrameWritten, TextWritten}
 use Rattle.bounded.specs.Store.{ReachedIn, CollectedTo}
@@ -76,7 +76,7 @@ slots-length (next-slot e v h) = ap suc (slots-length h)
 
 pub simulates-op : {R : Rel} {H K : View} → Simulates R H K → Simulates (Op R) K H
 simulates-op {R} {H} {K} S = record {
-  frame-link = λ n m r. let l = S .frame-link m n r in record { left = l .right; right = l .left; at-left = l .at-right; at-right = l .at-left; alike = slots-op (l .alike) };
+  frame-link = λ n m r. let l = S .frame-link m n r in record { left = l .right; right = l .left; at-left = l .at-right; at-right = l .at-left; alike = slots-op (l .alike); same-maker = sym (l .same-maker) };
   frame-right = λ m n o r q. S .frame-left n o m r q;
   frame-left = λ m n o r q. S .frame-right o m n r q;
   text-link = λ k j r. let l = S .text-link j k r in record { bytes = l .bytes; at-left = l .at-right; at-right = l .at-left };
@@ -88,7 +88,7 @@ simulates-op {R} {H} {K} S = record {
 pub simulates-extended : {R : Rel} {H H′ K K′ : View} → Simulates R H K → Extends H H′ → Extends K K′ → Simulates R H′ K′
 simulates-extended S a b = record {
   frame-link = λ m n r. let l = S .frame-link m n r in
-      record { left = l .left; right = l .right; at-left = a .old-frame m (l .left) (l .at-left); at-right = b .old-frame n (l .right) (l .at-right); alike = l .alike };
+      record { left = l .left; right = l .right; at-left = a .old-frame m (l .left) (l .at-left); at-right = b .old-frame n (l .right) (l .at-right); alike = l .alike; same-maker = l .same-maker };
   frame-right = S .frame-right;
   frame-left = S .frame-left;
   text-link = λ j k r. let l = S .text-link j k r in
@@ -324,17 +324,17 @@ set-rel {R} n {v} {w} r (next-slot {x = x} {y = y} {xs = xs} {ys = ys} e u h) =
 -- ---- A jump
 
 pub data JumpRel (R : Rel) : Result Jump → Result Jump → Type 0 where
-  both-jump : {is : Code Path} {v w : Value} → ValueRel R v w → JumpRel R (gives (record { code = is; self = v })) (gives (record { code = is; self = w }))
+  both-jump : {k : ℕ} {v w : Value} → ValueRel R v w → JumpRel R (gives (record { code = k; self = v })) (gives (record { code = k; self = w }))
   none-jumps : JumpRel R (ends 31) (ends 31)
 
-pub jump-rel : {R : Rel} {H K : View} (S : Simulates R H K) {Σ Σ′ Π Π′ : Value} → ValueRel R Σ Σ′ → ValueRel R Π Π′ → (cs : List (Code Path)) (a b : Base Path) →
-    JumpRel R (jump-result cs Σ Π (H .heap .frames) a b) (jump-result cs Σ′ Π′ (K .heap .frames) a b)
-unfolding jump-result M._>>=_ code-of
-jump-rel {R} {H} {K} S {Σ} {Σ′} {Π} {Π′} s q cs a b = step (base-rel S s q a) (base-rel S s q b)
+pub jump-rel : {R : Rel} {H K : View} (S : Simulates R H K) {Σ Σ′ Π Π′ : Value} → ValueRel R Σ Σ′ → ValueRel R Π Π′ → (a b : Base Path) →
+    JumpRel R (jump-result Σ Π (H .heap .frames) a b) (jump-result Σ′ Π′ (K .heap .frames) a b)
+unfolding jump-result M._>>=_ code-number
+jump-rel {R} {H} {K} S {Σ} {Σ′} {Π} {Π′} s q a b = step (base-rel S s q a) (base-rel S s q b)
   where
     step : {x x′ y y′ : Result Value} → BaseRel R x x′ → BaseRel R y y′ →
-        JumpRel R (M._>>=_ x (λ v. M._>>=_ (code-of cs v) (λ is. M._>>=_ y (λ w. gives (record { code = is; self = w })))))
-        (M._>>=_ x′ (λ v. M._>>=_ (code-of cs v) (λ is. M._>>=_ y′ (λ w. gives (record { code = is; self = w })))))
+        JumpRel R (M._>>=_ x (λ v. M._>>=_ (code-number v) (λ k. M._>>=_ y (λ w. gives (record { code = k; self = w })))))
+        (M._>>=_ x′ (λ v. M._>>=_ (code-number v) (λ k. M._>>=_ y′ (λ w. gives (record { code = k; self = w })))))
     step (both-give integers) t = none-jumps
     step (both-give literals) t = none-jumps
     step (both-give (texts r)) t = none-jumps
@@ -347,8 +347,9 @@ jump-rel {R} {H} {K} S {Σ} {Σ′} {Π} {Π′} s q cs a b = step (base-rel S s
 
 module _ {R : Rel} {H K : View} (S : Simulates R H K) where
   -- a related frame is written on both sides
-  pub write-both : {H′ K′ : View} {m n : ℕ} {f g : Frame} → R .frame m n → SlotsRel R (f .slots) (g .slots) → FrameWritten H H′ m f → FrameWritten K K′ n g → Simulates R H′ K′
-  write-both {H′} {K′} {m} {n} {f} {g} r fg w w′ =
+  pub write-both : {H′ K′ : View} {m n : ℕ} {f g : Frame} → R .frame m n → SlotsRel R (f .slots) (g .slots) → f .maker ≡ g .maker → FrameWritten H H′ m f →
+      FrameWritten K K′ n g → Simulates R H′ K′
+  write-both {H′} {K′} {m} {n} {f} {g} r fg made w w′ =
       record { frame-link = link; frame-right = S .frame-right; frame-left = S .frame-left; text-link = text; text-right = S .text-right; text-left = S .text-left }
     where
       text : (j k : ℕ) → R .text j k → TextsLinked H′ K′ j k
@@ -364,6 +365,7 @@ module _ {R : Rel} {H K : View} (S : Simulates R H K) where
             at-left = ap (frame-at H′) e ∙ w .here;
             at-right = ap (frame-at K′) (S .frame-right m d n (subst (λ (z : ℕ). R .frame z d) e q) r) ∙ w′ .here;
             alike = fg;
+            same-maker = made;
           }
           step (no e) =
               let l = S .frame-link c d q in
@@ -373,13 +375,14 @@ module _ {R : Rel} {H K : View} (S : Simulates R H K) where
                 at-left = w .there c e ∙ l .at-left;
                 at-right = w′ .there d (λ i. e (S .frame-left c m n (subst (λ (z : ℕ). R .frame c z) i q) r)) ∙ l .at-right;
                 alike = l .alike;
+                same-maker = l .same-maker;
               }
 
   -- a frame, or a text, that nothing is related to is written
   pub write-outside : {H′ : View} {m : ℕ} {f : Frame} → ((n : ℕ) → R .frame m n → ⊥) → FrameWritten H H′ m f → Simulates R H′ K
   write-outside out w = record {
     frame-link = λ c d q. let l = S .frame-link c d q in
-        record { left = l .left; right = l .right; at-left = w .there c (λ e. out d (subst (λ (z : ℕ). R .frame z d) e q)) ∙ l .at-left; at-right = l .at-right; alike = l .alike };
+        record { left = l .left; right = l .right; at-left = w .there c (λ e. out d (subst (λ (z : ℕ). R .frame z d) e q)) ∙ l .at-left; at-right = l .at-right; alike = l .alike; same-maker = l .same-maker };
     frame-right = S .frame-right;
     frame-left = S .frame-left;
     text-link = λ j k q. let l = S .text-link j k q in record { bytes = l .bytes; at-left = w .texts j ∙ l .at-left; at-right = l .at-right };
@@ -390,7 +393,7 @@ module _ {R : Rel} {H K : View} (S : Simulates R H K) where
   pub write-text-outside : {H′ : View} {j : ℕ} {bs : List ℕ} → ((k : ℕ) → R .text j k → ⊥) → TextWritten H H′ j bs → Simulates R H′ K
   write-text-outside out w = record {
     frame-link = λ c d q. let l = S .frame-link c d q in
-        record { left = l .left; right = l .right; at-left = w .frames c ∙ l .at-left; at-right = l .at-right; alike = l .alike };
+        record { left = l .left; right = l .right; at-left = w .frames c ∙ l .at-left; at-right = l .at-right; alike = l .alike; same-maker = l .same-maker };
     frame-right = S .frame-right;
     frame-left = S .frame-left;
     text-link = λ c d q. let l = S .text-link c d q in
@@ -429,11 +432,11 @@ pub up-with-text : (R : Rel) (j k : ℕ) → R ⊆ WithText R j k
 up-with-text R j k = record { up-frame = λ a b r. r; up-text = λ a b r. inl r }
 
 linked-up : {R R′ : Rel} {H K : View} {m n : ℕ} → R ⊆ R′ → FramesLinked R H K m n → FramesLinked R′ H K m n
-linked-up u l = record { left = l .left; right = l .right; at-left = l .at-left; at-right = l .at-right; alike = slots-up u (l .alike) }
+linked-up u l = record { left = l .left; right = l .right; at-left = l .at-left; at-right = l .at-right; alike = slots-up u (l .alike); same-maker = l .same-maker }
 
 pub add-frame : {R : Rel} {H K : View} {m n : ℕ} {f g : Frame} → Simulates R H K → ((b : ℕ) → R .frame m b → ⊥) → ((a : ℕ) → R .frame a n → ⊥) →
-    frame-at H m ≡ some f → frame-at K n ≡ some g → SlotsRel R (f .slots) (g .slots) → Simulates (With R m n) H K
-add-frame {R} {H} {K} {m} {n} {f} {g} S not-m not-n hm kn fg = record {
+    frame-at H m ≡ some f → frame-at K n ≡ some g → SlotsRel R (f .slots) (g .slots) → f .maker ≡ g .maker → Simulates (With R m n) H K
+add-frame {R} {H} {K} {m} {n} {f} {g} S not-m not-n hm kn fg made = record {
   frame-link = link;
   frame-right = plus-right (R .frame) m n not-m not-n (S .frame-right);
   frame-left = plus-left (R .frame) m n not-m not-n (S .frame-left);
@@ -445,7 +448,7 @@ add-frame {R} {H} {K} {m} {n} {f} {g} S not-m not-n hm kn fg = record {
     link : (a b : ℕ) → Plus (R .frame) m n a b → FramesLinked (With R m n) H K a b
     link a b (inl r) = linked-up (up-with R m n) (S .frame-link a b r)
     link a b (inr e) =
-        record { left = f; right = g; at-left = ap (frame-at H) (e .0) ∙ hm; at-right = ap (frame-at K) (e .1) ∙ kn; alike = slots-up (up-with R m n) fg }
+        record { left = f; right = g; at-left = ap (frame-at H) (e .0) ∙ hm; at-right = ap (frame-at K) (e .1) ∙ kn; alike = slots-up (up-with R m n) fg; same-maker = made }
 
 pub add-text : {R : Rel} {H K : View} {j k : ℕ} {bs : List ℕ} → Simulates R H K → ((b : ℕ) → R .text j b → ⊥) → ((a : ℕ) → R .text a k → ⊥) →
     text-at H j ≡ some bs → text-at K k ≡ some bs → Simulates (WithText R j k) H K
@@ -467,7 +470,7 @@ add-text {R} {H} {K} {j} {k} {bs} S not-j not-k hj kk = record {
 -- the values in the slots of a frame that is in use
 pub values-at : (H : View) (n : ℕ) (f : Frame) → frame-at H n ≡ some f → values-in (H .heap .frames) n ≡ map slot-value (f .slots)
 unfolding values-in
-values-at H n f e = ap (λ (g : Frame). map slot-value (g .slots)) (get-default (H .heap .frames) n (new-frame []) f (frame-read H n f e))
+values-at H n f e = ap (λ (g : Frame). map slot-value (g .slots)) (get-default (H .heap .frames) n (new-frame 0 []) f (frame-read H n f e))
 
 slot-partner : {R : Rel} {xs ys : List Slot} → SlotsRel R xs ys → {v : Value} → List·Memᴰ v (map slot-value xs) →
     (w : Value) × ValueRel R v w × List·Memᴰ w (map slot-value ys)
@@ -562,4 +565,5 @@ module _ (R : Rel) (H : View) (Σ Π : Value) where
             at-left = c .keeps-frame m (r .1) ∙ l .at-left;
             at-right = l .at-right;
             alike = slots-kept (l .alike) (λ v i. Reachable.in-slot (r .1) (subst (λ (vs : List Value). List·Memᴰ v vs) (sym (values-at H m (l .left) (l .at-left))) i));
+            same-maker = l .same-maker;
           }

@@ -83,6 +83,7 @@ module _ {S : Type 0} (𝓞 : Store S) (p : Program) (𝓛 : Laws 𝓞 p) (F T :
       self = subst (λ (H : View). Valid p H (b .self)) (sym e) (A .well-formed .self);
       program = subst (λ (H : View). Valid p H (b .program)) (sym e) (A .well-formed .program);
       remaining = A .well-formed .remaining;
+      next = A .well-formed .next;
       mark = A .well-formed .mark;
       frames-few = subst (λ (H : View). frames-used H ≤ F) (sym e) (A .well-formed .frames-few);
       texts-few = subst (λ (H : View). texts-used H ≤ T) (sym e) (A .well-formed .texts-few);
@@ -91,6 +92,7 @@ module _ {S : Type 0} (𝓞 : Store S) (p : Program) (𝓛 : Laws 𝓞 p) (F T :
     self = A .self;
     program = A .program;
     remaining = A .remaining;
+    next = A .next;
     end-mark = A .end-mark;
   }
 

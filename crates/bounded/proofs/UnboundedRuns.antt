@@ -19,7 +19,7 @@ use Rattle.framed.specs.Program.{Program}
 use Rattle.framed.specs.Values.{Frame, Heap, truth, join-bytes}
 use Rattle.framed.specs.Equality.{Constants, constants}
 use Rattle.framed.specs.Fetch.{fetch, get}
-use Rattle.framed.specs.Machine.{State, Effect, Result, gives, ends, defined, base-value, integer-in, integer-result, quotient, new-text, operate, evaluate, fill, frame-number, holds, put-slot, put, assign-to, code-of, jump-to, perform, step, after-step, marked, right-side, frame-literals}
+use Rattle.framed.specs.Machine.{State, Effect, Result, gives, ends, defined, base-value, integer-in, integer-result, quotient, new-text, operate, evaluate, fill, frame-number, holds, put-slot, put, assign-to, code-number, jump-to, following, perform, step, after-step, marked, right-side, frame-literals}
 use Rattle.framed.specs.Machine as M
 use Rattle.framed.specs.Answers.{Stopped}
 use Rattle.framed.specs.Calls.{Unbounded, at-start, advanced, ended, attempted, Position, at-end, before, position, Ran, stopped, one-more, run, frame-total, Call, run-call, collect-call, first-report, calls}
@@ -93,19 +93,19 @@ operate-within cs Operator.or v w h = tt
 mutual
   unfolding evaluate
 
-  evaluate-within : (e : Expression Path) (cs : Constants) (Σ Π : Value) (h : Heap) → Within (evaluate cs Σ Π e h)
-  evaluate-within (Expression.base b) cs Σ Π h = within-bind (base-value Σ Π (h .frames) b) _ (base-within Σ Π (h .frames) b) (λ v. tt)
-  evaluate-within (Expression.not b) cs Σ Π h = within-bind (base-value Σ Π (h .frames) b) _ (base-within Σ Π (h .frames) b) (λ v. tt)
-  evaluate-within (Expression.operation o a b) cs Σ Π h =
+  evaluate-within : (e : Expression Path) (cs : Constants) (m : ℕ) (Σ Π : Value) (h : Heap) → Within (evaluate cs m Σ Π e h)
+  evaluate-within (Expression.base b) cs m Σ Π h = within-bind (base-value Σ Π (h .frames) b) _ (base-within Σ Π (h .frames) b) (λ v. tt)
+  evaluate-within (Expression.not b) cs m Σ Π h = within-bind (base-value Σ Π (h .frames) b) _ (base-within Σ Π (h .frames) b) (λ v. tt)
+  evaluate-within (Expression.operation o a b) cs m Σ Π h =
       within-bind (base-value Σ Π (h .frames) a) _ (base-within Σ Π (h .frames) a) (λ v.
       within-bind (base-value Σ Π (h .frames) b) _ (base-within Σ Π (h .frames) b) (λ w. operate-within cs o v w h))
-  evaluate-within (Expression.frame ss) cs Σ Π h = within-bind (fill cs Σ Π ss (M.with-frame h)) _ (fill-within ss cs Σ Π (M.with-frame h)) (λ r. tt)
+  evaluate-within (Expression.frame ss) cs m Σ Π h = within-bind (fill cs m Σ Π ss (M.with-frame m h)) _ (fill-within ss cs m Σ Π (M.with-frame m h)) (λ r. tt)
 
-  fill-within : (ss : Slots Path) (cs : Constants) (Σ Π : Value) (h : Heap) → Within (fill cs Σ Π ss h)
-  fill-within Slots.no-slots cs Σ Π h = tt
-  fill-within (Slots.slot n e ss) cs Σ Π h =
-      within-bind (evaluate cs Σ Π e h) _ (evaluate-within e cs Σ Π h) (λ r.
-      within-bind (fill cs Σ Π ss (r .heap)) _ (fill-within ss cs Σ Π (r .heap)) (λ q. tt))
+  fill-within : (ss : Slots Path) (cs : Constants) (m : ℕ) (Σ Π : Value) (h : Heap) → Within (fill cs m Σ Π ss h)
+  fill-within Slots.no-slots cs m Σ Π h = tt
+  fill-within (Slots.slot n e ss) cs m Σ Π h =
+      within-bind (evaluate cs m Σ Π e h) _ (evaluate-within e cs m Σ Π h) (λ r.
+      within-bind (fill cs m Σ Π ss (r .heap)) _ (fill-within ss cs m Σ Π (r .heap)) (λ q. tt))
 
 number-within : (v : Value) → Within (frame-number v)
 unfolding frame-number
@@ -126,45 +126,45 @@ put-within frames v n [] w =
     within-bind (put-slot f n w) _ (slot-within f n w) (λ g. tt)))
 put-within frames v n (m ∷ ns) w = within-bind (defined (get frames v n)) _ (within-defined (get frames v n)) (λ u. put-within frames u m ns w)
 
-assign-within : (Σ Π : Value) (rest : Code Path) (path : Path) (v : Value) (h : Heap) → Within (assign-to Σ Π rest path v h)
+assign-within : (Σ Π : Value) (rest : Code Path) (m : ℕ) (path : Path) (v : Value) (h : Heap) → Within (assign-to Σ Π rest m path v h)
 unfolding assign-to
-assign-within Σ Π rest (from-self []) v h = tt
-assign-within Σ Π rest (from-self (n ∷ ns)) v h = within-bind (put (h .frames) Σ n ns v) _ (put-within (h .frames) Σ n ns v) (λ fs. tt)
-assign-within Σ Π rest (from-program []) v h = tt
-assign-within Σ Π rest (from-program (n ∷ ns)) v h = within-bind (put (h .frames) Π n ns v) _ (put-within (h .frames) Π n ns v) (λ fs. tt)
+assign-within Σ Π rest m (from-self []) v h = tt
+assign-within Σ Π rest m (from-self (n ∷ ns)) v h = within-bind (put (h .frames) Σ n ns v) _ (put-within (h .frames) Σ n ns v) (λ fs. tt)
+assign-within Σ Π rest m (from-program []) v h = tt
+assign-within Σ Π rest m (from-program (n ∷ ns)) v h = within-bind (put (h .frames) Π n ns v) _ (put-within (h .frames) Π n ns v) (λ fs. tt)
 
-code-within : (codes : List (Code Path)) (v : Value) → Within (code-of codes v)
-unfolding code-of
-code-within codes (Value.Int z) = (omega arith, omega arith)
-code-within codes (Value.Text t) = (omega arith, omega arith)
-code-within codes (Value.Code k) = tt
-code-within codes (Value.Frame n) = (omega arith, omega arith)
+code-within : (v : Value) → Within (code-number v)
+unfolding code-number
+code-within (Value.Int z) = (omega arith, omega arith)
+code-within (Value.Text t) = (omega arith, omega arith)
+code-within (Value.Code k) = tt
+code-within (Value.Frame n) = (omega arith, omega arith)
 
 jump-within : (p : Program) (Σ Π : Value) (h : Heap) (a b : Base Path) → Within (jump-to p Σ Π h a b)
 unfolding jump-to
 jump-within p Σ Π h a b =
     within-bind (base-value Σ Π (h .frames) a) _ (base-within Σ Π (h .frames) a) (λ v.
-    within-bind (code-of (p .codes) v) _ (code-within (p .codes) v) (λ is.
+    within-bind (code-number v) _ (code-within v) (λ k.
     within-bind (base-value Σ Π (h .frames) b) _ (base-within Σ Π (h .frames) b) (λ w. tt)))
 
-perform-within : (p : Program) (Σ Π : Value) (h : Heap) (rest : Code Path) (i : Instruction Path) → Within (perform p Σ Π h rest i)
+perform-within : (p : Program) (m : ℕ) (Σ Π : Value) (h : Heap) (rest : Code Path) (i : Instruction Path) → Within (perform p m Σ Π h rest i)
 unfolding perform
-perform-within p Σ Π h rest (Instruction.assign path e) =
-    within-bind (evaluate (constants p) Σ Π e h) _ (evaluate-within e (constants p) Σ Π h) (λ r. assign-within Σ Π rest path (r .value) (r .heap))
-perform-within p Σ Π h rest (Instruction.show a) = within-bind (base-value Σ Π (h .frames) a) _ (base-within Σ Π (h .frames) a) (λ v. tt)
-perform-within p Σ Π h rest (Instruction.jump a b) = jump-within p Σ Π h a b
-perform-within p Σ Π h rest (Instruction.ifeq a b c) =
+perform-within p m Σ Π h rest (Instruction.assign path e) =
+    within-bind (evaluate (constants p) m Σ Π e h) _ (evaluate-within e (constants p) m Σ Π h) (λ r. assign-within Σ Π rest (following p m) path (r .value) (r .heap))
+perform-within p m Σ Π h rest (Instruction.show a) = within-bind (base-value Σ Π (h .frames) a) _ (base-within Σ Π (h .frames) a) (λ v. tt)
+perform-within p m Σ Π h rest (Instruction.jump a b) = jump-within p Σ Π h a b
+perform-within p m Σ Π h rest (Instruction.ifeq a b c) =
     within-bind (base-value Σ Π (h .frames) a) _ (base-within Σ Π (h .frames) a) (λ v. within-if (truth v) _ _ tt (jump-within p Σ Π h b c))
 
 rule-ends : (p : Program) (s : State) (i : Instruction Path) (rest : Code Path) (e : ℕ) →
-    perform p (s .self) (s .program) (s .heap) rest i ≡ ends e → (31 ≤ e) × (e ≤ 35)
-rule-ends p s i rest e q = subst Within q (perform-within p (s .self) (s .program) (s .heap) rest i)
+    perform p (s .next) (s .self) (s .program) (s .heap) rest i ≡ ends e → (31 ≤ e) × (e ≤ 35)
+rule-ends p s i rest e q = subst Within q (perform-within p (s .next) (s .self) (s .program) (s .heap) rest i)
 
 pub step-ends : (p : Program) (F T : ℕ) (s : State) (i : Instruction Path) (rest : Code Path) (e : ℕ) → step p F T s i rest ≡ ends e → (31 ≤ e) × (e ≤ 37)
 unfolding by-reserve
 step-ends p F T s i rest e q = go (reserve-room F T s i) (sym (step-is p F T s i rest) ∙ q)
   where
-    go : {n k r : ℕ} → Room F T n k r → by-reserve r (perform p (s .self) (s .program) (s .heap) rest i) ≡ ends e → (31 ≤ e) × (e ≤ 37)
+    go : {n k r : ℕ} → Room F T n k r → by-reserve r (perform p (s .next) (s .self) (s .program) (s .heap) rest i) ≡ ends e → (31 ≤ e) × (e ≤ 37)
     go (room h g) q = let w = rule-ends p s i rest e q in let a = w .0 in let b = w .1 in (omega arith, omega arith)
     go (no-frames h) q = let a = ends-inj q in (omega arith, omega arith)
     go (no-texts h g) q = let a = ends-inj q in (omega arith, omega arith)
@@ -317,7 +317,7 @@ module _ (p : Program) (F T : ℕ) where
       n : ℕ
       n = frame-total s + frame-literals (right-side i)
 
-      go : {a c b : ℕ} → Room F T a c b → a ≡ n → step p F T s i rest ≡ by-reserve b (perform p (s .self) (s .program) (s .heap) rest i) →
+      go : {a c b : ℕ} → Room F T a c b → a ≡ n → step p F T s i rest ≡ by-reserve b (perform p (s .next) (s .self) (s .program) (s .heap) rest i) →
           (step p F T s i rest ≡ ends 36) ↔ (F < n)
       go (room l k) e g =
           ((λ h. absurd (let w = rule-ends p s i rest 36 (sym g ∙ h) in let c = w .1 in let z : ⊥ = omega arith in z)), (λ h. absurd (let z : ⊥ = omega arith in z)))

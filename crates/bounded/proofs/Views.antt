@@ -90,9 +90,9 @@ none-before {A} H K n k e = step (H n) refl
 
 -- ---- How many are in use after a write
 
-pub claimed-frames : (H K : View) (n : ℕ) → FrameClaimed H K n → frames-used K ≡ suc (frames-used H)
+pub claimed-frames : (H K : View) (n m : ℕ) → FrameClaimed H K n m → frames-used K ≡ suc (frames-used H)
 unfolding frames-used
-claimed-frames H K n c = used-new (frame-at H) (frame-at K) entries n (new-frame []) (c .below) (c .free) (c .written .here) (c .written .there)
+claimed-frames H K n m c = used-new (frame-at H) (frame-at K) entries n (new-frame m []) (c .below) (c .free) (c .written .here) (c .written .there)
 
 pub written-frames : (H K : View) (n : ℕ) (f g : Frame) → frame-at H n ≡ some g → FrameWritten H K n f → frames-used K ≡ frames-used H
 unfolding frames-used
@@ -134,9 +134,9 @@ unfolding frame-at text-at with-frames
 set-written h n f g e =
     record { here = set-here (h .frames) n f (get-below (h .frames) n g e); there = λ m d. set-there (h .frames) n f m d; texts = λ k. refl }
 
-pub new-written : (h : Heap) → FrameWritten (all-used h) (all-used (with-frame h)) (length (h .frames)) (new-frame [])
+pub new-written : (m : ℕ) (h : Heap) → FrameWritten (all-used h) (all-used (with-frame m h)) (length (h .frames)) (new-frame m [])
 unfolding frame-at text-at with-frame
-new-written h = record { here = new-here (h .frames) (new-frame []); there = λ m d. new-there (h .frames) (new-frame []) m d; texts = λ k. refl }
+new-written m h = record { here = new-here (h .frames) (new-frame m []); there = λ n d. new-there (h .frames) (new-frame m []) n d; texts = λ k. refl }
 
 -- the heap with one text more
 abbrev pub with-text : List ℕ → Heap → Heap

@@ -16,6 +16,7 @@ use Rattle.framed.specs.Tree.{Base, Expression, Slots, Instruction, Code, _then
 use Rattle.framed.specs.Paths.{Path, names-of}
 use Rattle.framed.specs.Meaning.{slot-names}
 use Rattle.framed.specs.Program.{Program}
+use Rattle.framed.specs.Machine.{following, first-of}
 use Rattle.framed.specs.Values.{Frame}
 use Rattle.bounded.specs.Views.{View, frame-at, text-at}
 
@@ -69,3 +70,6 @@ CodeFits p (i then is) = InstructionFits p i × CodeFits p is
 pub record ProgramFits (p : Program) : Type 0 where
   pub literals : (k : ℕ) → StringBytes (getD (p .literals) k [])
   pub codes : (k : ℕ) → CodeFits p (getD (p .codes) k Code.finished)
+  -- the instructions that codes begin with, and those that follow others, are there
+  pub firsts : (k : ℕ) → first-of p k ≤ length (p .instructions)
+  pub nexts : (n : ℕ) → following p n ≤ length (p .instructions)

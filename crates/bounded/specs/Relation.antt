@@ -6,6 +6,7 @@ use mathlib.Core.List.{List, [], _∷_}
 use mathlib.Core.Option.{some}
 use Prim.Native.Nat.{ℕ, _≤_}
 use lib.IntN.{ℤ}
+use lib.ListN.{length}
 use Rattle.framed.specs.declared.Value.{Value}
 use Rattle.framed.specs.declared.Text.{Text}
 use Rattle.framed.specs.Program.{Program}
@@ -40,6 +41,7 @@ pub record FramesLinked (R : Rel) (H K : View) (m n : ℕ) : Type 0 where
   pub at-left : frame-at H m ≡ some left
   pub at-right : frame-at K n ≡ some right
   pub alike : SlotsRel R (left .slots) (right .slots)
+  pub same-maker : left .maker ≡ right .maker
 
 pub record TextsLinked (H K : View) (j k : ℕ) : Type 0 where
   pub bytes : List ℕ
@@ -66,6 +68,7 @@ module _ {S : Type 0} (𝓞 : Store S) (p : Program) (𝓛 : Laws 𝓞 p) (F T :
     pub self : Valid p (𝓞 .view (b .store)) (b .self)
     pub program : Valid p (𝓞 .view (b .store)) (b .program)
     pub remaining : CodeFits p (b .remaining)
+    pub next : b .next ≤ length (p .instructions)
     pub mark : EndMark (b .end-mark)
     pub frames-few : frames-used (𝓞 .view (b .store)) ≤ F
     pub texts-few : texts-used (𝓞 .view (b .store)) ≤ T
@@ -78,4 +81,5 @@ module _ {S : Type 0} (𝓞 : Store S) (p : Program) (𝓛 : Laws 𝓞 p) (F T :
     pub self : ValueRel relation (b .self) (s .self)
     pub program : ValueRel relation (b .program) (s .program)
     pub remaining : b .remaining ≡ s .remaining
+    pub next : b .next ≡ s .next
     pub end-mark : b .end-mark ≡ s .end-mark

@@ -19,9 +19,10 @@ use Rattle.bounded.specs.Fits.{Valid, StringBytes}
 
 pub record Store (S : Type 0) : Type 0 where
   pub view : S → View
-  -- the number that the next new frame takes (the lowest that is not in use; the laws ask only that it is not), and the store with that frame in use, without slots
+  -- the number that the next new frame takes (the lowest that is not in use; the laws ask only that it is not), and the store with that frame in use, of this
+  -- maker, without slots
   pub next-frame : S → ℕ
-  pub claim-frame : S → S
+  pub claim-frame : S → ℕ → S
   -- one slot more, behind the others: frame number, name, value
   pub push : S → (n x : ℕ) → Value → S
   -- the slot is set, or added behind the others: frame number, name, value
@@ -39,11 +40,11 @@ pub record Store (S : Type 0) : Type 0 where
 abbrev pub ReachedIn : View → Value → Value → Value → Type 0
 ReachedIn H Σ Π v = Reachable (H .heap .frames) Σ Π v
 
--- a frame of number n that was not in use is now, without slots
-pub record FrameClaimed (H K : View) (n : ℕ) : Type 0 where
+-- a frame of number n that was not in use is now, of the maker m, without slots
+pub record FrameClaimed (H K : View) (n m : ℕ) : Type 0 where
   pub below : n < entries
   pub free : frame-at H n ≡ none
-  pub written : FrameWritten H K n (new-frame [])
+  pub written : FrameWritten H K n (new-frame m [])
 
 pub record TextClaimed (H K : View) (k : ℕ) (bs : List ℕ) : Type 0 where
   pub below : k < entries
@@ -70,9 +71,9 @@ pub record Laws {S : Type 0} (𝓞 : Store S) (p : Program) : Type 1 where
   -- the counts
   pub frame-count-is : (s : S) → WellFormed s → 𝓞 .frame-count s ≡ frames-used (𝓞 .view s)
   pub text-count-is : (s : S) → WellFormed s → 𝓞 .text-count s ≡ texts-used (𝓞 .view s)
-  -- where not all 256 are in use, one that is not is claimed
-  pub claim-frame-is : (s : S) → WellFormed s → frames-used (𝓞 .view s) < entries →
-      WellFormed (𝓞 .claim-frame s) × FrameClaimed (𝓞 .view s) (𝓞 .view (𝓞 .claim-frame s)) (𝓞 .next-frame s)
+  -- where not all 256 are in use, one that is not is claimed; its maker is 0 or an instruction of the program
+  pub claim-frame-is : (s : S) → WellFormed s → frames-used (𝓞 .view s) < entries → (m : ℕ) → m ≤ length (p .instructions) →
+      WellFormed (𝓞 .claim-frame s m) × FrameClaimed (𝓞 .view s) (𝓞 .view (𝓞 .claim-frame s m)) (𝓞 .next-frame s) m
   pub claim-text-is : (s : S) → WellFormed s → texts-used (𝓞 .view s) < entries → (bs : List ℕ) → length bs ≤ 64 → StringBytes bs →
       WellFormed (𝓞 .claim-text s bs) × TextClaimed (𝓞 .view s) (𝓞 .view (𝓞 .claim-text s bs)) (𝓞 .next-text s) bs
   -- a name that the program has and the frame has not, on a frame of less than 16 slots

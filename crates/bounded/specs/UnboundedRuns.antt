@@ -44,7 +44,7 @@ pub record UnboundedRuns : Type 0 where
       (run p F T 1 space u .steps ≡ 1) × (run p F T 1 space u .bytes ≡ x .line) × (run p F T 1 space u .machine ≡ advanced u x)
   -- the numbers of the ends
   pub rule-ends : (p : Program) (s : State) (i : Instruction Path) (rest : Code Path) (e : ℕ) →
-      perform p (s .self) (s .program) (s .heap) rest i ≡ ends e → (31 ≤ e) × (e ≤ 35)
+      perform p (s .next) (s .self) (s .program) (s .heap) rest i ≡ ends e → (31 ≤ e) × (e ≤ 35)
   pub step-ends : (p : Program) (F T : ℕ) (s : State) (i : Instruction Path) (rest : Code Path) (e : ℕ) → step p F T s i rest ≡ ends e → (31 ≤ e) × (e ≤ 37)
 
 pub record UnboundedCalls : Type 0 where

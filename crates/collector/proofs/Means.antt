@@ -1,6 +1,6 @@
 -- What a collection means: exactly what is reached is in use, the totals are `framed`'s, what is reached stays as it was, and a second collection changes nothing. Assumes nothing.
 use Prim.Native.Nat.{ℕ, _+_, _≤_, _<_}
-use mathlib.Core.Path.{_≡_, refl, _∙_, ap, sym}
+use mathlib.Core.Path.{_≡_, refl, _∙_, ap, ap₂, sym}
 use mathlib.Core.List.{List}
 use mathlib.Core.Bool.{not, true≢false}
 use native.Mathlib.Omega.{arith}
@@ -19,7 +19,7 @@ use Rattle.heap.specs.Words.{self-held, program-held, position, end-mark, frame
 use Rattle.heap.specs.Held.{frame-held, text-held, frames-held, frames-in-use, texts-in-use}
 use Rattle.heap.specs.Closed.{Sized, FrameInUse, TextInUse, NamesInUse, Closed}
 use Rattle.heap.proofs.Lists.{same-length}
-use Rattle.heap.proofs.Laws.{same-part, same-self, same-program, same-position, same-end-mark, same-count, same-value, frame-used-word, frame-word-free, text-used-word, text-word-free, text-length-word}
+use Rattle.heap.proofs.Laws.{same-part, same-self, same-program, same-position, same-end-mark, same-count, same-maker, same-value, frame-used-word, frame-word-free, text-used-word, text-word-free, text-length-word}
 use Rattle.heap.proofs.Held.{InSlot, in-slot-held, in-slot-from, frame-of-used, slots-same, text-same, frame-counted, text-counted, frames-once, texts-once}
 use Rattle.mark.specs.Mark.{mark-all}
 use Rattle.mark.specs.Reached.{Reached, Marked, Exactly}
@@ -85,7 +85,8 @@ module _ (h : List ℕ) (closed : Closed h) where
   frame-same : (f : ℕ) → Reached h (Value.Frame f) → frame-held after f ≡ frame-held h f
   frame-same f r =
       let u = reached-in-use h closed r .frame f refl in
-      frame-of-used after f (frame-stays f r .used) ∙ ap new-frame (slots-same f (words .body f (u .small)) (few f r)) ∙ sym (frame-of-used h f (u .used))
+      let b = words .body f (u .small) in
+      frame-of-used after f (frame-stays f r .used) ∙ ap₂ new-frame (same-maker f b) (slots-same f b (few f r)) ∙ sym (frame-of-used h f (u .used))
 
   text-word-same : (k : ℕ) → Reached h (Value.Text (Text.Made k)) → text-word after k ≡ text-word h k
   text-word-same k r = words .text-kept k (reached-in-use h closed r .made k refl .small) (exact .text-all k r)

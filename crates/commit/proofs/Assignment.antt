@@ -9,13 +9,13 @@ use borrow.Author.Tests.{ne-eqb}
 use Rattle.framed.specs.Tree.{Instruction}
 use Rattle.tables.specs.declared.InstructionEntry.{InstructionEntry}
 use Rattle.tables.specs.Entries.{instruction-of, instruction-at}
-use Rattle.tables.specs.Fields.{expressions, instructions, instruction-kind, instruction-a, instruction-b, instruction-c, instruction-after}
+use Rattle.tables.specs.Fields.{expressions, instructions, instruction-kind, instruction-a, instruction-b, instruction-c}
 use Rattle.program_entries.specs.Form.{InstructionForm}
 use Rattle.program_form.specs.WellFormed.{WellFormed}
 use Rattle.trees.specs.Trees.{path-list}
 use Rattle.trees.specs.Held as trees
 use Rattle.trees.proofs.Held.{assign-self-held, assign-program-held}
-use Rattle.commit.specs.Commit.{path-of, assignment, position-by, position-after}
+use Rattle.commit.specs.Commit.{path-of, assignment}
 
 -- of kinds 0 and 1
 pub assignment-entry : (p : List ℕ) (i k : ℕ) → k ≡ instruction-kind p i → k < 2
@@ -75,8 +75,3 @@ module _ (p l : List ℕ) (w : WellFormed p l) (i : ℕ) (there : i < instructio
   unfolding assignment
   assignment-there true j n x at = form .self-there j n x (sym at)
   assignment-there false j n x at = form .program-there j n x (sym at)
-
-pub assignment-place : (p h : List ℕ) (i : ℕ) (own : Bool) (j n x : ℕ) → assignment own j n x ≡ instruction-at p i → instruction-after p i ≡ position-after p h i
-unfolding assignment position-after position-by
-assignment-place p h i true j n x at = rw (← at)
-assignment-place p h i false j n x at = rw (← at)

@@ -40,6 +40,7 @@ module _ (remaining-from : ℕ → Code Path) {h h′ : List ℕ} (t t′ : List
         self = same-self (same-part (as-same k) 0 2 (omega arith) (omega arith)) i;
         program = same-program (same-part (as-same k) 2 4 (omega arith) (omega arith)) i;
         remaining = remaining-from (same-position (same-part (as-same k) 4 5 (omega arith) (omega arith)) i);
+        next = same-position (same-part (as-same k) 4 5 (omega arith) (omega arith)) i;
         end-mark = same-end-mark (same-part (as-same k) 5 6 (omega arith) (omega arith)) i;
       }
 

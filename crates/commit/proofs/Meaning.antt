@@ -1,5 +1,5 @@
 -- What an instruction that is `:=` along a path means, by the expression and the path. Assumes nothing.
-use Prim.Native.Nat.{ℕ, _<_}
+use Prim.Native.Nat.{ℕ, suc, _<_}
 use mathlib.Core.Path.{_≡_, _∙_}
 use mathlib.Core.Bool.{Bool, true, false}
 use mathlib.Core.List.{List}
@@ -12,7 +12,7 @@ use Rattle.tables.specs.Entries.{instruction-at}
 use Rattle.tables.specs.Fields.{expressions, instructions, instruction-after}
 use Rattle.trees.specs.Trees.{path-list}
 use Rattle.trees.specs.Held as trees
-use Rattle.heap.specs.Words.{set-position}
+use Rattle.heap.specs.Words.{position, set-position}
 use Rattle.checking.specs.Checking.{Checks, assign-end}
 use Rattle.checking.proofs.Laws.{check-self, check-program}
 use Rattle.producing.specs.Producing.{Writable}
@@ -35,7 +35,7 @@ module _ (p l h t : List ℕ) (i j n x : ℕ) where
   no-show true a q = let z : _≡_ {A = ℕ} 0 1 = cc in omega arith
   no-show false a q = let z : _≡_ {A = ℕ} 0 1 = cc in omega arith
 
-  module _ (k : Checks p l h t) (here : i < instructions p) where
+  module _ (k : Checks p l h t) (here : i < instructions p) (next : position h ≡ suc i) where
     checked-by : (own : Bool) → assignment own j n x ≡ instruction-at p i → (r : ℕ) → r ≡ assign-end p l h t (root-of own h) j n x → r ≡ end-met p l h t i
     unfolding assignment root-of
     checked-by true at r er = check-self p l h t i k here j n x r at er
@@ -47,5 +47,5 @@ module _ (p l h t : List ℕ) (i j n x : ℕ) where
       there = assignment-there p l (k .program) i here own j n x at;
       quiet = λ a q. no-show own a (at ∙ q);
       checked = checked-by own at;
-      done = λ c h₁ t₁ h₂ a eh. commit-assigns p l h t i c here own j n x at h₁ t₁ h₂ a eh;
+      done = λ c h₁ t₁ h₂ a eh. commit-assigns p l h t i c here next own j n x at h₁ t₁ h₂ a eh;
     }

@@ -1,32 +1,27 @@
 -- Document 01, "The endless machine", what an instruction does, over the words: it is the bounded machine's `commit` on the state that the words hold. For an
 -- assignment or a show it is what this crate does, for a jump and an `ifeq` what the crate `step_jump` does. Assumes nothing.
-use Prim.Native.Nat.{ℕ, _<_}
+use Prim.Native.Nat.{ℕ, suc, _<_}
 use mathlib.Core.Path.{_≡_}
 use mathlib.Core.Bool.{Bool, true, false}
 use mathlib.Core.List.{List}
 use lib.ListN.{length}
-use Rattle.words.specs.Words.{pick}
 use Rattle.framed.specs.declared.Value.{Value}
-use Rattle.framed.specs.Values.{truth}
 use Rattle.framed.specs.Equality.{constants}
 use Rattle.framed.specs.Tree.{Code}
 use Rattle.framed.specs.Paths.{Path, from-self, from-program}
 use Rattle.framed.specs.Machine.{Result, gives, ends, frame-literals, join-signs, right-side}
 use Rattle.tables.specs.declared.InstructionEntry.{InstructionEntry}
-use Rattle.tables.specs.Entries.{instruction-at}
 use Rattle.tables.specs.Fields.{expressions, instructions, instruction-after}
 use Rattle.program_form.specs.WellFormed.{WellFormed}
 use Rattle.trees.specs.Held as trees
 use Rattle.trees.specs.Held.{remaining}
-use Rattle.places.specs.Places.{first-place}
 use Rattle.heap.specs.Words.{self-held, program-held, position, set-self, set-program}
 use Rattle.heap.specs.Held.{frames-held}
 use Rattle.paths.specs.Paths.{path-held}
 use Rattle.puts.specs.Puts.{target-along, put-slot}
-use Rattle.operands.specs.Operands.{operand-value}
 use Rattle.frame_form.specs.declared.Limits.{Limits}
 use Rattle.bounded.specs.Check.{Target, jump-result}
-use Rattle.bounded.specs.Bounded.{Bounded, value-given, evaluate, commit-assign, commit-jump, commit, heap-in}
+use Rattle.bounded.specs.Bounded.{Bounded, evaluate, commit-assign, commit-jump, commit, heap-in}
 use Rattle.checking.specs.Checking.{AssignsOrShows}
 use Rattle.word_store.specs.Store.{Memories, word-store}
 use Rattle.word_store.specs.State.{store-held, state-held, with-remaining, HeaderFormed}
@@ -67,30 +62,15 @@ pub record HeaderStays (p h h′ : List ℕ) : Type 0 where
 
 -- after an assignment, but for the position
 pub record Assigns (p l h t : List ℕ) (path : Path) (x : ℕ) (h′ t′ : List ℕ) : Type 0 where
-  pub state : (rest : Code Path) →
-      with-remaining rest (state-of p h′ t′)
-      ≡ commit-assign word-store (state-of p h t) rest path
-      (evaluate word-store (constants (trees.program-held p l)) (self-held h) (program-held h) (trees.expression-held p x) (store-held h t))
+  pub state : (rest : Code Path) (m : ℕ) →
+      with-remaining rest m (state-of p h′ t′)
+      ≡ commit-assign word-store (state-of p h t) rest m path
+      (evaluate word-store (constants (trees.program-held p l)) (position h) (self-held h) (program-held h) (trees.expression-held p x) (store-held h t))
   pub header : HeaderStays p h h′
   pub size : length h′ ≡ 16384
   pub text-size : length t′ ≡ 16384
 
 -- ---- Jumps, which the crate `step_jump` makes
-
--- where a jump goes: the place of the code that the first operand gives, where the second gives a value; else the place stays z
-unfoldable pub code-place : List ℕ → ℕ → Value → ℕ
-code-place p z (Value.Int n) = z
-code-place p z (Value.Text t) = z
-code-place p z (Value.Code k) = first-place p k
-code-place p z (Value.Frame n) = z
-
-unfoldable pub place-to : List ℕ → ℕ → Result Value → Result Value → ℕ
-place-to p z (gives v) (gives w) = code-place p z v
-place-to p z (gives v) (ends e) = z
-place-to p z (ends e) r = z
-
-unfoldable pub jump-place : List ℕ → List ℕ → ℕ → ℕ → ℕ
-jump-place p h a c = place-to p (position h) (operand-value p h a) (operand-value p h c)
 
 pub record CanJump (p l h : List ℕ) (a c : ℕ) : Type 0 where
   pub program : WellFormed p l
@@ -101,9 +81,8 @@ pub record CanJump (p l h : List ℕ) (a c : ℕ) : Type 0 where
 pub record Jumps (p l h : List ℕ) (a c : ℕ) (h′ : List ℕ) : Type 0 where
   pub state : (t : List ℕ) →
       state-of p h′ t
-      ≡ commit-jump word-store (state-of p h t)
-      (jump-result (trees.program-held p l .codes) (self-held h) (program-held h) (heap-in word-store (store-held h t) .frames) (trees.base-held p a) (trees.base-held p c))
-  pub position : position h′ ≡ jump-place p h a c
+      ≡ commit-jump word-store (trees.program-held p l) (state-of p h t)
+      (jump-result (self-held h) (program-held h) (heap-in word-store (store-held h t) .frames) (trees.base-held p a) (trees.base-held p c))
   pub header : HeaderStays p h h′
   pub size : length h′ ≡ 16384
 
@@ -114,28 +93,16 @@ unfoldable pub assignment : Bool → ℕ → ℕ → ℕ → InstructionEntry
 assignment true j n x = InstructionEntry.AssignSelf j n x
 assignment false j n x = InstructionEntry.AssignProgram j n x
 
--- the position after instruction i, by its entry
-unfoldable pub position-by : List ℕ → List ℕ → ℕ → InstructionEntry → ℕ
-position-by p h i (InstructionEntry.AssignSelf j n x) = instruction-after p i
-position-by p h i (InstructionEntry.AssignProgram j n x) = instruction-after p i
-position-by p h i (InstructionEntry.Show a) = instruction-after p i
-position-by p h i (InstructionEntry.Jump a c) = jump-place p h a c
-position-by p h i (InstructionEntry.Ifeq a c d) = pick (truth (value-given (operand-value p h a))) (instruction-after p i) (jump-place p h c d)
-position-by p h i InstructionEntry.Bad = instruction-after p i
-
-unfoldable pub position-after : List ℕ → List ℕ → ℕ → ℕ
-position-after p h i = position-by p h i (instruction-at p i)
-
--- instruction i is there and assigns or shows, and there is room for what it makes
+-- instruction i is there, is the next, and assigns or shows, and there is room for what it makes
 pub record CanCommit (p l h t : List ℕ) (i : ℕ) : Type 0 where
   pub writable : Writable p l h t
   pub there : i < instructions p
+  pub next : position h ≡ suc i
   pub form : AssignsOrShows p i
   pub room : HasRoom h (frame-literals (right-side (trees.instruction-held p i))) (join-signs (right-side (trees.instruction-held p i)))
 
 pub record Commits (p l h t : List ℕ) (i : ℕ) (h′ t′ : List ℕ) : Type 0 where
   pub state : state-of p h′ t′ ≡ commit word-store (trees.program-held p l) (state-of p h t) (remaining p (instruction-after p i)) (trees.instruction-held p i)
-  pub position : position h′ ≡ position-after p h i
   pub header : HeaderStays p h h′
   pub size : length h′ ≡ 16384
   pub text-size : length t′ ≡ 16384

@@ -1,6 +1,6 @@
 -- Document 01, "The endless machine", one step on an instruction that makes no frame and no text and shows nothing, over program words p,
 -- literal bytes l, heap words h and text bytes t: its end is that of `bounded`'s check, and what it does is the bounded machine's commit. Assumes nothing.
-use Prim.Native.Nat.{ℕ, _<_}
+use Prim.Native.Nat.{ℕ, suc, _<_}
 use mathlib.Core.Path.{_≡_}
 use mathlib.Core.List.{List}
 use Rattle.framed.specs.Machine.{frame-literals, join-signs, right-side}
@@ -8,16 +8,17 @@ use Rattle.tables.specs.declared.InstructionEntry.{InstructionEntry}
 use Rattle.tables.specs.Entries.{instruction-at}
 use Rattle.tables.specs.Fields.{instructions}
 use Rattle.trees.specs.Held as trees
-use Rattle.heap.specs.Words.{self-held, program-held}
+use Rattle.heap.specs.Words.{self-held, program-held, position}
 use Rattle.heap.specs.Held.{heap-held}
 use Rattle.wellformed.specs.WellFormed.{Formed}
 use Rattle.bounded.specs.Check.{check}
 use Rattle.commit.specs.Commit.{Commits}
 
--- the memories are well-formed and instruction i is there
+-- the memories are well-formed and instruction i is the next
 pub record CanDo (p l h t : List ℕ) (i : ℕ) : Type 0 where
   pub memories : Formed p l h t
   pub there : i < instructions p
+  pub next : position h ≡ suc i
 
 -- and has this entry
 pub record CanDoEntry (p l h t : List ℕ) (i : ℕ) (e : InstructionEntry) : Type 0 where

@@ -6,14 +6,15 @@ use Rattle.load.proofs.Theorems.{load-exact, load-whole}
 use Rattle.look.proofs.Means.{look-is-fetch, look-text-is-fetch}
 use Rattle.write.proofs.Laws.{call-refuses}
 use Rattle.write.proofs.Answers.{short-kept, written-within}
+use Rattle.makers.proofs.Laws as makers
 use Rattle.lent_machine.specs.Machine.{run-lent, collect-lent}
 use Rattle.lent_machine.proofs.Runs.{run-formed}
 use Rattle.lent_machine.proofs.Collects.{collect-formed}
 use Rattle.lent_machine.proofs.First as first
-use Rattle.demands.specs.Machine.{look-lent, look-text-lent, write-lent, machine}
+use Rattle.demands.specs.Machine.{look-lent, look-text-lent, write-lent, makers-lent, machine}
 
 pub demand-1 : Demand1 machine
-unfolding run-lent collect-lent look-lent look-text-lent write-lent
+unfolding run-lent collect-lent look-lent look-text-lent write-lent makers-lent
 demand-1 = record {
   load-refused = λ m source F T refused.
       load-exact m source F T .unchanged (λ e. refused (sym (load-exact m source F T .number) ∙ ap load-number e));
@@ -22,6 +23,7 @@ demand-1 = record {
   look-refused = λ m path n.
       (look-is-fetch (m .program) (m .heap) (m .literal) (m .text) path .refused n, look-text-is-fetch (m .program) (m .heap) (m .literal) (m .text) path .refused n);
   write-refused = λ m buffer n. call-refuses (m .program) (m .heap) (m .literal) (m .text) buffer n;
+  makers-refused = λ m counts n. makers.call-refuses (m .program) (m .heap) (m .literal) (m .text) counts n;
   write-short = λ m buffer e. short-kept (m .program) (m .heap) (m .literal) (m .text) buffer e;
   run-answers = λ m fuel buffer w. first.run-answers m fuel buffer w;
   collect-answers = λ m w. first.collect-answers m w;

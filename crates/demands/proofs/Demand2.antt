@@ -10,20 +10,21 @@ use Rattle.wellformed.specs.Held.{state-held}
 use Rattle.load.proofs.Theorems.{load-exact, load-decodes, load-starts}
 use Rattle.look.proofs.Means.{look-is-fetch, look-text-is-fetch}
 use Rattle.write.proofs.Laws.{write-is-text}
+use Rattle.makers.proofs.Laws.{makers-is-count, makers-there}
 use Rattle.run.proofs.Means.{run-call-means}
 use Rattle.lent_machine.specs.Machine.{run-lent, collect-lent}
 use Rattle.lent_machine.proofs.Runs.{bounded-of}
 use Rattle.lent_machine.proofs.Collects.{collect-alike}
 use Rattle.lent_machine.proofs.Calls.{q, left-is}
 use Rattle.lent_machine.proofs.Second as second
-use Rattle.demands.specs.Machine.{look-lent, look-text-lent, write-lent, other-calls, machine}
+use Rattle.demands.specs.Machine.{look-lent, look-text-lent, write-lent, makers-lent, other-calls, machine}
 
 -- one equivalence after another
 both : {A B C : Type 0} → (A ↔ B) → (B ↔ C) → (A ↔ C)
 both x y = (λ a. y .0 (x .0 a), λ c. x .1 (y .1 c))
 
 pub demand-2 : Demand2 machine
-unfolding run-lent collect-lent look-lent look-text-lent write-lent
+unfolding run-lent collect-lent look-lent look-text-lent write-lent makers-lent
 demand-2 = record {
   load-answers = λ m source F T. load-exact m source F T .number;
   loads = λ m source F T. load-exact m source F T .done;
@@ -52,5 +53,7 @@ demand-2 = record {
   looks-text = λ m path w. look-text-is-fetch (m .program) (m .heap) (m .literal) (m .text) path .looked w;
   looks-fetch = λ m path x l w e. look-is-fetch (m .program) (m .heap) (m .literal) (m .text) path .fetched w x l e;
   looks-text-fetch = λ m path x bs w e. look-text-is-fetch (m .program) (m .heap) (m .literal) (m .text) path .fetched w x bs e;
+  counts-makers = λ m counts w size. makers-is-count (m .program) (m .heap) (m .literal) (m .text) counts .counted w;
+  makers-there = λ m n w above. makers-there (m .program) (m .heap) (m .literal) (m .text) w n above;
   writes = λ m buffer w. write-is-text (m .program) (m .heap) (m .literal) (m .text) buffer .written w;
 }

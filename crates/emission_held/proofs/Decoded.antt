@@ -13,14 +13,14 @@ use mathlib.Core.Bool.{true}
 use Rattle.framed.specs.Tokens.{Operator, in-range}
 use Rattle.framed.specs.Tree.{Base, Expression, Slots, Instruction, Code, _then_}
 use Rattle.framed.specs.Paths.{Path, from-self, from-program, names-of}
-use Rattle.framed.specs.Program.{base-parts, expression-parts, slots-parts, instruction-parts, code-parts}
+use Rattle.framed.specs.Program.{base-parts, expression-parts, slots-parts, instruction-parts, code-parts, first-number}
 use Rattle.ints.specs.Ints.{word-of}
-use Rattle.tables.specs.Fields.{expressions, instructions, codes, code-first, path-name, slot-after, instruction-after}
+use Rattle.tables.specs.Fields.{expressions, instructions, codes, code-first, path-name, slot-after, instruction-link, instruction-after}
 use Rattle.program_form.specs.Sound.{SlotPlace}
 use Rattle.trees.specs.Trees.{path-list, operator-of, base-tree, expression-tree, instruction-tree}
 use Rattle.trees.specs.Held.{OneLevel, held, base-held, expression-held, slots-held, instruction-held, remaining}
 use Rattle.shapes.specs.Numbers.{Numbers, _⊕_, one-expression, one-instruction, one-code, more-names, base-size, expression-size, slots-size, instruction-size, code-size}
-use Rattle.emission.specs.Emit.{operator-kind, first-place, first-slot-place, path-entry, assign-entry}
+use Rattle.emission.specs.Emit.{operator-kind, link-to-code, first-place, first-slot-place, path-entry, assign-entry}
 use Rattle.emission.specs.Frame.{AtMost}
 use Rattle.emission.specs.Writes.{past-base, past-expression, past-instruction}
 use Rattle.emission.specs.Texts.{Listed}
@@ -53,6 +53,12 @@ integer-read : (z : ℤ) → in-range z ≡ true → toZ w32 (word-of z) ≡ z
 unfolding word-of
 integer-read z r = toZ-ofZ w32 z (record { sfits = ltb-true _ _ r })
 
+-- numbers of instructions are 1 + the place
+numbered : (is : Code Path) (i n : ℕ) → n ≡ suc i → first-place is i ≡ first-number n is
+unfolding first-place first-number
+numbered Code.finished i n e = refl
+numbered (o then is) i n e = omega arith
+
 -- ---- Trees
 
 module _ (p l : List ℕ) (W : OneLevel p l) (γ : Standing) (N S : ℕ) (T : Numbers)
@@ -66,6 +72,14 @@ module _ (p l : List ℕ) (W : OneLevel p l) (γ : Standing) (N S : ℕ) (T : Nu
   unfolding instruction-tree assign-entry names-of
   path-assign (from-self ns) j e h = rw (path-read p j ns h)
   path-assign (from-program ns) j e h = rw (path-read p j ns h)
+
+  -- the place after an instruction
+  after-read : (o : Instruction Path) (is : Code Path) (s : Numbers) → AtMost (s ⊕ code-size (o then is)) T →
+      instruction-link p (s .instructions) ≡ link-to-code is (s .instructions) (past-instruction o s .instructions) →
+      instruction-after p (s .instructions) ≡ first-place is (past-instruction o s .instructions)
+  unfolding code-size
+  after-read o is s m d =
+      after-instruction p (s .instructions) _ d ∙ code-reached is (s .instructions) (past-instruction o s .instructions) (omega arith) (omega arith)
 
   mutual
     unfolding base-size base-tree expression-tree instruction-tree first-place first-slot-place
@@ -138,64 +152,59 @@ module _ (p l : List ℕ) (W : OneLevel p l) (γ : Standing) (N S : ℕ) (T : Nu
     code-read Code.finished c s m h = W .finished
     code-read (o then is) c s m (CodeAt.next t h d k) =
         let i : 1 + s .instructions ≡ suc (s .instructions) = omega arith in
-        let u : instruction-after p (s .instructions) ≡ first-place is (past-instruction o s .instructions) =
-        after-instruction p (s .instructions) _ d ∙ code-reached is (s .instructions) (past-instruction o s .instructions) (omega arith) (omega arith)
-        in
         ap (remaining p) i
         ∙ W .next (s .instructions) (omega arith)
-        ∙ rw (u, instruction-read o _ c (one-instruction s) (omega arith) (omega arith) h, code-read is c (past-instruction o s) (omega arith) k) refl
+        ∙ rw (after-read o is s m d, instruction-read o _ c (one-instruction s) (omega arith) (omega arith) h, code-read is c (past-instruction o s) (omega arith) k) refl
 
   -- ---- The codes and instructions, by where each begins
-
-  abbrev pub code-of : ℕ → Code Path
-  code-of k = remaining p (code-first p k)
 
   mutual
     unfolding base-size base-parts
 
     pub base-reads : (b : Base Path) (x c : ℕ) (s : Numbers) → AtMost (s ⊕ base-size b) T → BaseAt p γ N S b x c s →
-        Reads code-of (instruction-held p) (s .codes) (s .instructions) (base-parts b) ((s ⊕ base-size b) .codes) ((s ⊕ base-size b) .instructions)
-    base-reads (Base.integer z) x c s m h = reads-none _ _ _ _ _ _ (omega arith) (omega arith)
-    base-reads (Base.string k) x c s m h = reads-none _ _ _ _ _ _ (omega arith) (omega arith)
-    base-reads (Base.path q) x c s m h = reads-none _ _ _ _ _ _ (omega arith) (omega arith)
+        Reads p (s .codes) (s .instructions) (base-parts b) ((s ⊕ base-size b) .codes) ((s ⊕ base-size b) .instructions)
+    base-reads (Base.integer z) x c s m h = reads-none (omega arith) (omega arith)
+    base-reads (Base.string k) x c s m h = reads-none (omega arith) (omega arith)
+    base-reads (Base.path q) x c s m h = reads-none (omega arith) (omega arith)
     base-reads (Base.code k is) x c s m (BaseAt.code d q e n f h) =
-        reads-block _ _ _ _ _ _ is _
-        (ap code-of (sym d) ∙ ap (remaining p) f ∙ code-read is k (one-code s) (omega arith) h)
-        (reads-to _ _ _ _ _ _ _ _ _ (omega arith) (omega arith) (code-reads is k (one-code s) (omega arith) h))
+        let u = ap (code-first p) (sym d) ∙ f in
+        reads-block (ap (remaining p) u ∙ code-read is k (one-code s) (omega arith) h) (u ∙ numbered is _ _ (omega arith))
+        (reads-to (omega arith) (omega arith) (code-reads is k (one-code s) (omega arith) h))
 
     pub expression-reads : (b : Expression Path) (x c : ℕ) (s : Numbers) → AtMost (s ⊕ expression-size b) T → ExpressionAt p γ N S b x c s →
-        Reads code-of (instruction-held p) (s .codes) (s .instructions) (expression-parts b) ((s ⊕ expression-size b) .codes) ((s ⊕ expression-size b) .instructions)
+        Reads p (s .codes) (s .instructions) (expression-parts b) ((s ⊕ expression-size b) .codes) ((s ⊕ expression-size b) .instructions)
     expression-reads (Expression.base b) x c s m (ExpressionAt.base h) = base-reads b x c s m h
     expression-reads (Expression.not b) x c s m (ExpressionAt.not e t h) = base-reads b _ c (one-expression s) (omega arith) h
     expression-reads (Expression.operation o a b) x c s m (ExpressionAt.operation e t h u k) =
-        reads-to _ _ _ _ _ _ _ _ _ (omega arith) (omega arith)
-        (reads-append _ _ _ _ _ _ _ _ _ _ (base-reads a _ c (one-expression s) (omega arith) h) (base-reads b _ c (one-expression (past-base a s)) (omega arith) k))
+        reads-to (omega arith) (omega arith)
+        (reads-append (base-reads a _ c (one-expression s) (omega arith) h) (base-reads b _ c (one-expression (past-base a s)) (omega arith) k))
     expression-reads (Expression.frame ss) x c s m (ExpressionAt.frame f e h) = slots-reads ss _ c s m h
 
     pub slots-reads : (ss : Slots Path) (o : Owner) (c : ℕ) (s : Numbers) → AtMost (s ⊕ slots-size ss) T → SlotsAt p γ N S ss o c s →
-        Reads code-of (instruction-held p) (s .codes) (s .instructions) (slots-parts ss) ((s ⊕ slots-size ss) .codes) ((s ⊕ slots-size ss) .instructions)
-    slots-reads Slots.no-slots o c s m h = reads-none _ _ _ _ _ _ (omega arith) (omega arith)
+        Reads p (s .codes) (s .instructions) (slots-parts ss) ((s ⊕ slots-size ss) .codes) ((s ⊕ slots-size ss) .instructions)
+    slots-reads Slots.no-slots o c s m h = reads-none (omega arith) (omega arith)
     slots-reads (Slots.slot n b ss) o c s m (SlotsAt.slot r e d t h k) =
-        reads-to _ _ _ _ _ _ _ _ _ (omega arith) (omega arith)
-        (reads-append _ _ _ _ _ _ _ _ _ _ (expression-reads b _ c (one-expression s) (omega arith) h) (slots-reads ss o c (past-expression b s) (omega arith) k))
+        reads-to (omega arith) (omega arith)
+        (reads-append (expression-reads b _ c (one-expression s) (omega arith) h) (slots-reads ss o c (past-expression b s) (omega arith) k))
 
     pub instruction-reads : (b : Instruction Path) (i c : ℕ) (s : Numbers) → AtMost (s ⊕ instruction-size b) T → InstructionAt p γ N S b i c s →
-        Reads code-of (instruction-held p) (s .codes) (s .instructions) (instruction-parts b) ((s ⊕ instruction-size b) .codes) ((s ⊕ instruction-size b) .instructions)
+        Reads p (s .codes) (s .instructions) (instruction-parts b) ((s ⊕ instruction-size b) .codes) ((s ⊕ instruction-size b) .instructions)
     instruction-reads (Instruction.assign q b) i c s m (InstructionAt.assign r e j t h) = expression-reads b _ _ (one-expression (more-names (length (names-of q)) s)) (omega arith) h
     instruction-reads (Instruction.show a) i c s m (InstructionAt.show e t h) = base-reads a _ _ (one-expression s) (omega arith) h
     instruction-reads (Instruction.jump a b) i c s m (InstructionAt.jump e t h u k) =
-        reads-to _ _ _ _ _ _ _ _ _ (omega arith) (omega arith)
-        (reads-append _ _ _ _ _ _ _ _ _ _ (base-reads a _ _ (one-expression s) (omega arith) h) (base-reads b _ _ (one-expression (past-base a s)) (omega arith) k))
+        reads-to (omega arith) (omega arith)
+        (reads-append (base-reads a _ _ (one-expression s) (omega arith) h) (base-reads b _ _ (one-expression (past-base a s)) (omega arith) k))
     instruction-reads (Instruction.ifeq a b d) i c s m (InstructionAt.ifeq e t h u k v j) =
-        reads-to _ _ _ _ _ _ _ _ _ (omega arith) (omega arith)
-        (reads-append _ _ _ _ _ _ _ _ _ _
-        (reads-append _ _ _ _ _ _ _ _ _ _ (base-reads a _ _ (one-expression s) (omega arith) h) (base-reads b _ _ (one-expression (past-base a s)) (omega arith) k))
+        reads-to (omega arith) (omega arith)
+        (reads-append
+        (reads-append (base-reads a _ _ (one-expression s) (omega arith) h) (base-reads b _ _ (one-expression (past-base a s)) (omega arith) k))
         (base-reads d _ _ (one-expression (past-base b (past-base a s))) (omega arith) j))
 
     pub code-reads : (is : Code Path) (c : ℕ) (s : Numbers) → AtMost (s ⊕ code-size is) T → CodeAt p γ N S is c s →
-        Reads code-of (instruction-held p) (s .codes) (s .instructions) (code-parts is) ((s ⊕ code-size is) .codes) ((s ⊕ code-size is) .instructions)
-    code-reads Code.finished c s m h = reads-none _ _ _ _ _ _ (omega arith) (omega arith)
+        Reads p (s .codes) (s .instructions) (code-parts is) ((s ⊕ code-size is) .codes) ((s ⊕ code-size is) .instructions)
+    code-reads Code.finished c s m h = reads-none (omega arith) (omega arith)
     code-reads (o then is) c s m (CodeAt.next t h d k) =
-        reads-line _ _ _ _ _ _ o _ (instruction-read o _ c (one-instruction s) (omega arith) (omega arith) h)
-        (reads-to _ _ _ _ _ _ _ _ _ (omega arith) (omega arith)
-        (reads-append _ _ _ _ _ _ _ _ _ _ (instruction-reads o _ c (one-instruction s) (omega arith) h) (code-reads is c (past-instruction o s) (omega arith) k)))
+        let r = instruction-reads o _ c (one-instruction s) (omega arith) h in
+        reads-line (instruction-read o _ c (one-instruction s) (omega arith) (omega arith) h)
+        (after-read o is s m d ∙ numbered is _ _ (omega (arith, r .instructions .count)))
+        (reads-to (omega arith) (omega arith) (reads-append r (code-reads is c (past-instruction o s) (omega arith) k)))

@@ -4,16 +4,16 @@ use mathlib.Core.List.{List}
 use Prim.Native.Nat.{ℕ, _+_}
 use native.Mathlib.Omega.{arith}
 use Rattle.framed.specs.Program.{Program, slots-parts}
-use Rattle.tables.specs.Fields.{names, literals, instructions, codes, program-slots, start, code-first}
+use Rattle.tables.specs.Fields.{names, literals, instructions, codes, program-slots, start, code-first, instruction-after}
 use Rattle.program_form.specs.Sound.{SlotPlace}
-use Rattle.trees.specs.Held.{OneLevel, program-held, list-from, name-bytes, literal-bytes as bytes-held, slots-held, instruction-held, remaining}
+use Rattle.trees.specs.Held.{OneLevel, program-held, list-from, name-bytes, literal-bytes as bytes-held, slots-held, instruction-held}
 use Rattle.shapes.specs.Numbers.{Numbers, zeros, slots-size}
 use Rattle.shapes.specs.Shape.{Shaped}
 use Rattle.emission_tree.specs.Standing.{Owner, Standing}
 use Rattle.emission_tree.specs.Whole.{ProgramAt}
 use Rattle.emission_tree.proofs.Whole.{program-standing, program-at}
 use Rattle.emission_held.specs.Decodes.{LoadDecodes}
-use Rattle.emission_held.proofs.Lists.{Reads, read-list, read-run, texts-listed}
+use Rattle.emission_held.proofs.Lists.{code-of, Reads, read-list, read-run, texts-listed}
 use Rattle.emission_held.proofs.Decoded.{slots-read, slots-reads}
 
 module _ (p l : List ℕ) (W : OneLevel p l) (γ : Standing) (q : Program) (F T : ℕ) (h : Shaped q) (a : ProgramAt p l γ q F T) where
@@ -29,21 +29,29 @@ module _ (p l : List ℕ) (W : OneLevel p l) (γ : Standing) (q : Program) (F T 
   abbrev end : Numbers
   end = slots-size (q .slots)
 
-  tree-reads : Reads (λ k. remaining p (code-first p k)) (instruction-held p) 0 0 (slots-parts (q .slots)) (0 + end .codes) (0 + end .instructions)
+  tree-reads : Reads p 0 0 (slots-parts (q .slots)) (0 + end .codes) (0 + end .instructions)
   tree-reads =
       let e = a .header in
       let s = h .size in
       slots-reads p l W γ _ _ end (omega arith) (omega arith) (omega arith) (omega arith) (q .slots) Owner.program 0 zeros (omega arith) (a .slots)
 
-  codes-read : list-from (λ k. remaining p (code-first p k)) (codes p) 0 ≡ q .codes
-  codes-read =
-      let e : codes p ≡ 0 + end .codes = omega (arith, a .header .codes-are) in
-      ap (λ (n : ℕ). list-from (λ k. remaining p (code-first p k)) n 0) e ∙ read-run _ _ _ (tree-reads .codes) ∙ sym (h .codes)
+  codes-count : codes p ≡ 0 + end .codes
+  codes-count = omega (arith, a .header .codes-are)
+
+  instructions-count : instructions p ≡ 0 + end .instructions
+  instructions-count = omega (arith, a .header .instructions-are)
+
+  codes-read : list-from (code-of p) (codes p) 0 ≡ q .codes
+  codes-read = read-run _ _ _ _ codes-count (tree-reads .codes) ∙ sym (h .codes)
 
   instructions-read : list-from (instruction-held p) (instructions p) 0 ≡ q .instructions
-  instructions-read =
-      let e : instructions p ≡ 0 + end .instructions = omega (arith, a .header .instructions-are) in
-      ap (λ (n : ℕ). list-from (instruction-held p) n 0) e ∙ read-run _ _ _ (tree-reads .instructions) ∙ sym (h .instructions)
+  instructions-read = read-run _ _ _ _ instructions-count (tree-reads .instructions) ∙ sym (h .instructions)
+
+  firsts-read : list-from (code-first p) (codes p) 0 ≡ q .firsts
+  firsts-read = read-run _ _ _ _ codes-count (tree-reads .firsts) ∙ sym (h .firsts)
+
+  nexts-read : list-from (instruction-after p) (instructions p) 0 ≡ q .nexts
+  nexts-read = read-run _ _ _ _ instructions-count (tree-reads .nexts) ∙ sym (h .nexts)
 
   tree-read : slots-held p (program-slots p) ≡ q .slots
   tree-read =
@@ -61,6 +69,8 @@ module _ (p l : List ℕ) (W : OneLevel p l) (γ : Standing) (q : Program) (F T 
         literals = literals-read i;
         codes = codes-read i;
         instructions = instructions-read i;
+        firsts = firsts-read i;
+        nexts = nexts-read i;
         slots = tree-read i;
         start = a .header .start-is i;
       }

@@ -21,7 +21,7 @@ use Rattle.program_form.specs.Sound.{SlotPlace, Sound}
 use Rattle.program_form.proofs.Decides.{sound}
 use Rattle.trees.specs.Held.{expression-held, slots-held, OneLevel}
 use Rattle.trees.proofs.Held.{one-level-held, frame-held}
-use Rattle.heap.specs.Words.{self-held, program-held, take-frame, add-slot}
+use Rattle.heap.specs.Words.{self-held, program-held, position, take-frame, add-slot}
 use Rattle.heap.specs.Held.{frames-in-use}
 use Rattle.allocation.specs.Allocation.{next-frame}
 use Rattle.allocation.specs.Known.{Full}
@@ -34,11 +34,11 @@ use Rattle.producing.specs.Producing.{Leaves, made}
 use Rattle.producing.proofs.Leaves.{leaves-none, leaves-both}
 use Rattle.evaluation.specs.Evaluation.{Claims, program-constants, CanEvaluate, Flat, Evaluates, CanFill, Fills, FillsBases}
 use Rattle.evaluation.proofs.Fits.{fits-frame}
-use Rattle.evaluation.proofs.Stores.{next-is, claim-store, push-store, self-kept, program-kept, claim-in-use, claim-leaves, push-leaves}
+use Rattle.evaluation.proofs.Stores.{next-is, claim-store, push-store, self-kept, program-kept, position-kept, claim-in-use, claim-leaves, push-leaves}
 
-pub claim-done : (h : List ℕ) (f : ℕ) (h′ : List ℕ) → f ≡ next-frame h → h′ ≡ take-frame h f → Claims h f h′
+pub claim-done : (h : List ℕ) (f m : ℕ) (h′ : List ℕ) → f ≡ next-frame h → m ≡ position h → h′ ≡ take-frame h f m → Claims h f h′
 unfolding claim-frame
-claim-done h f h′ ef eh = record { answer = ef; words = eh ∙ rw ef }
+claim-done h f m h′ ef em eh = record { answer = ef; words = eh ∙ rw (ef, em) }
 
 full-after : {h t h′ t′ : List ℕ} {f n low least : ℕ} → Leaves h t f n h′ t′ → Full h low least → Full h′ low least
 full-after l a = record {
@@ -108,13 +108,13 @@ module _ (p l h t : List ℕ) (x : ℕ) (can : CanEvaluate p l h t x) (e : Expre
     few = let q = can .room .frames in let a = literals-are in omega arith
 
     left : Leaves h t 1 0 h₁ t
-    left = rw (c .words) (claim-leaves h t (can .writable .sized) (can .writable .text-size) few)
+    left = rw (c .words) (claim-leaves h t (can .writable .sized) (can .writable .text-size) few (position h))
 
     pub evaluate-can-fill : CanFill p l h₁ t f z
     evaluate-can-fill = record {
       writable = record { program = can .writable .program; sized = left .sized; text-size = can .writable .text-size };
       place = rw ez (SlotPlace.of-frame x d (can .there) entry);
-      frame = rw (c .words, c .answer) (claim-in-use h t (can .writable .sized) (can .writable .text-size) few);
+      frame = rw (c .words, c .answer) (claim-in-use h t (can .writable .sized) (can .writable .text-size) few (position h));
       room = record {
         frames = let q = can .room .frames in let a = literals-are in let b = left .frames in omega arith;
         texts = let q = can .room .texts in let a = signs-are in let b = left .texts in omega arith;
@@ -134,25 +134,25 @@ module _ (p l h t : List ℕ) (x : ℕ) (can : CanEvaluate p l h t x) (e : Expre
         let a = literals-are in
         let b = signs-are in
         record {
-          produced = rw tree-is (make (rw (self-kept (left .header), program-kept (left .header)) at (k .stored)));
+          produced = rw tree-is (make (rw (position-kept (left .header), self-kept (left .header), program-kept (left .header)) at (k .stored)));
           leaves = record { header = v .header; stay = v .stay; stay-text = v .stay-text; sized = v .sized; text-size = v .text-size; frames = let q = v .frames in omega arith; texts = let q = v .texts in omega arith };
           fits = fits-frame f;
         }
       where
-        make : fill word-store (program-constants p l) (self-held h) (program-held h) f (slots-held p z) (store-held h₁ t) ≡ store-held h′ t′ →
-            evaluate word-store (program-constants p l) (self-held h) (program-held h) (Expression.frame (slots-held p z)) (store-held h t) ≡ made (Value.Frame f) h′ t′
+        make : fill word-store (program-constants p l) (position h) (self-held h) (program-held h) f (slots-held p z) (store-held h₁ t) ≡ store-held h′ t′ →
+            evaluate word-store (program-constants p l) (position h) (self-held h) (program-held h) (Expression.frame (slots-held p z)) (store-held h t) ≡ made (Value.Frame f) h′ t′
         make s =
             let en : word-store .next-frame (store-held h t) ≡ f = next-is h t ∙ sym (c .answer) in
-            let ec : word-store .claim-frame (store-held h t) ≡ store-held h₁ t = sym (claim-store h t (can .writable .sized .size)) ∙ rw (c .words) in
+            let ec : word-store .claim-frame (store-held h t) (position h) ≡ store-held h₁ t = sym (claim-store h t (can .writable .sized .size) (position h)) ∙ rw (c .words) in
             rw (en, ec, s)
 
 -- ---- fill
 
-fill-step : (cs : Constants) (Σ Π : Value) (f n : ℕ) (e : Expression Path) (ss : Slots Path) (s : Memories) →
-    fill word-store cs Σ Π f (Slots.slot n e ss) s
-    ≡ fill word-store cs Σ Π f ss (word-store .push (evaluate word-store cs Σ Π e s .store) f n (evaluate word-store cs Σ Π e s .value))
+fill-step : (cs : Constants) (m : ℕ) (Σ Π : Value) (f n : ℕ) (e : Expression Path) (ss : Slots Path) (s : Memories) →
+    fill word-store cs m Σ Π f (Slots.slot n e ss) s
+    ≡ fill word-store cs m Σ Π f ss (word-store .push (evaluate word-store cs m Σ Π e s .store) f n (evaluate word-store cs m Σ Π e s .value))
 unfolding fill
-fill-step cs Σ Π f n e ss s = refl
+fill-step cs m Σ Π f n e ss s = refl
 
 module _ (p l h t : List ℕ) (f z : ℕ) (can : CanFill p l h t f z) where
   one : OneLevel p l
@@ -224,17 +224,17 @@ module _ (p l h t : List ℕ) (f z : ℕ) (can : CanFill p l h t f z) where
           let b = signs-in in
           let c = leaves-both so-far (rw ew at (k .leaves)) in
           record {
-            stored = rw slots-are (go (rw (self-kept (so-far .header), program-kept (so-far .header), ew) at (k .stored)));
+            stored = rw slots-are (go (rw (position-kept (so-far .header), self-kept (so-far .header), program-kept (so-far .header), ew) at (k .stored)));
             leaves = record { header = c .header; stay = c .stay; stay-text = c .stay-text; sized = c .sized; text-size = c .text-size; frames = let q = c .frames in omega arith; texts = let q = c .texts in omega arith };
           }
         where
-          go : fill word-store (program-constants p l) (self-held h) (program-held h) f (slots-held p (slot-after p y)) (store-held h₂ t₁) ≡ store-held h₃ t₃ →
-              fill word-store (program-constants p l) (self-held h) (program-held h) f (Slots.slot (slot-name p y) (expression-held p y) (slots-held p (slot-after p y))) (store-held h t) ≡ store-held h₃ t₃
+          go : fill word-store (program-constants p l) (position h) (self-held h) (program-held h) f (slots-held p (slot-after p y)) (store-held h₂ t₁) ≡ store-held h₃ t₃ →
+              fill word-store (program-constants p l) (position h) (self-held h) (program-held h) f (Slots.slot (slot-name p y) (expression-held p y) (slots-held p (slot-after p y))) (store-held h t) ≡ store-held h₃ t₃
           go s =
               let ep : word-store .push (store-held h₁ t₁) f (slot-name p y) v ≡ store-held h₂ t₁ = sym (push-store h₁ t₁ (m .leaves .sized .size) f (slot-name p y) v) ∙ rw (eh, ex) in
-              fill-step (program-constants p l) (self-held h) (program-held h) f (slot-name p y) (expression-held p y) (slots-held p (slot-after p y)) (store-held h t)
-              ∙ ap (λ (r : Produced Memories). fill word-store (program-constants p l) (self-held h) (program-held h) f (slots-held p (slot-after p y)) (word-store .push (r .store) f (slot-name p y) (r .value))) (m .produced)
-              ∙ ap (fill word-store (program-constants p l) (self-held h) (program-held h) f (slots-held p (slot-after p y))) ep
+              fill-step (program-constants p l) (position h) (self-held h) (program-held h) f (slot-name p y) (expression-held p y) (slots-held p (slot-after p y)) (store-held h t)
+              ∙ ap (λ (r : Produced Memories). fill word-store (program-constants p l) (position h) (self-held h) (program-held h) f (slots-held p (slot-after p y)) (word-store .push (r .store) f (slot-name p y) (r .value))) (m .produced)
+              ∙ ap (fill word-store (program-constants p l) (position h) (self-held h) (program-held h) f (slots-held p (slot-after p y))) ep
               ∙ s
 
 -- the loop: what fills the slots from z on then fills all

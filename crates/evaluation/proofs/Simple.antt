@@ -26,7 +26,7 @@ use Rattle.trees.specs.Trees.{base-tree, expression-tree}
 use Rattle.trees.specs.Held as held
 use Rattle.trees.specs.Held.{base-held, expression-held, OneLevel}
 use Rattle.trees.proofs.Held.{one-level-held, not-held, operation-held}
-use Rattle.heap.specs.Words.{self-held, program-held}
+use Rattle.heap.specs.Words.{self-held, program-held, position}
 use Rattle.heap.specs.Held.{texts-held, heap-held}
 use Rattle.operands.specs.Operands.{operand-value}
 use Rattle.program_equality.specs.Agreement.{constants-held}
@@ -69,7 +69,7 @@ module _ (p l h t : List ℕ) (x : ℕ) (w : Writable p l h t) (there : x < expr
   tree = expression-held p x
 
   abbrev evaluated : Expression Path → Produced Memories
-  evaluated e = evaluate word-store (program-constants p l) (self-held h) (program-held h) e (store-held h t)
+  evaluated e = evaluate word-store (program-constants p l) (position h) (self-held h) (program-held h) e (store-held h t)
 
   -- an expression that makes nothing
   still : (e : Expression Path) (v : Value) → tree ≡ e → evaluated e ≡ made v h t → ValueFits v → Evaluates p l h t x v h t

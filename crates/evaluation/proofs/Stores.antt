@@ -10,10 +10,10 @@ use borrow.Author.Tests.{le-leb}
 use Rattle.framed.specs.declared.Value.{Value}
 use Rattle.framed.specs.Tree.{Code}
 use Rattle.framed.specs.Values.{Heap}
-use Rattle.heap.specs.Words.{self-held, program-held, frame-used, slot-count-at, take-frame, add-slot}
+use Rattle.heap.specs.Words.{self-held, program-held, position, frame-used, slot-count-at, take-frame, add-slot}
 use Rattle.heap.specs.Held.{frames-held, heap-held, frames-in-use}
 use Rattle.heap.specs.Closed.{Sized, FrameInUse}
-use Rattle.heap.proofs.Laws.{Same, same-part, same-self, same-program, take-frame-used}
+use Rattle.heap.proofs.Laws.{Same, same-part, same-self, same-program, same-position, take-frame-used}
 use Rattle.heap.proofs.Held.{take-frame-sized, take-frame-others, take-frame-count-one, take-frame-texts, add-slot-sized, add-slot-in-use, add-slot-texts}
 use Rattle.allocation.specs.Allocation.{next-frame, view-held}
 use Rattle.allocation.proofs.Laws.{next-frame-below, next-frame-free}
@@ -41,9 +41,9 @@ module _ (h t : List ℕ) where
   next-is = held-read (λ i. Code.finished) h t .next-frame
 
   module _ (size : length h ≡ 16384) where
-    pub claim-store : store-held (claim-frame h) t ≡ word-store .claim-frame (store-held h t)
+    pub claim-store : (m : ℕ) → store-held (claim-frame h m) t ≡ word-store .claim-frame (store-held h t) m
     unfolding state-held
-    claim-store = ap (λ (b : Bounded Memories). b .store) (held-after (λ i. Code.finished) h t size .frame)
+    claim-store m = ap (λ (b : Bounded Memories). b .store) (held-after (λ i. Code.finished) h t size .frame m)
 
     pub push-store : (f x : ℕ) (v : Value) → store-held (add-slot h f x v) t ≡ word-store .push (store-held h t) f x v
     unfolding state-held
@@ -60,6 +60,9 @@ self-kept k = same-self (same-part (as-same k) 0 2 (omega arith) (omega arith))
 pub program-kept : {h h′ : List ℕ} → HeaderKept h h′ → program-held h′ ≡ program-held h
 program-kept k = same-program (same-part (as-same k) 2 4 (omega arith) (omega arith))
 
+pub position-kept : {h h′ : List ℕ} → HeaderKept h h′ → position h′ ≡ position h
+position-kept k = same-position (same-part (as-same k) 4 5 (omega arith) (omega arith))
+
 -- ---- What is left
 
 pub full-frame : (h : List ℕ) (f x : ℕ) (v : Value) → 16 ≤ slot-count-at h f → add-slot h f x v ≡ h
@@ -67,30 +70,30 @@ unfolding add-slot
 full-frame h f x v le = rw (le-leb 16 (slot-count-at h f) le)
 
 module _ (h t : List ℕ) (s : Sized h) (size : length t ≡ 16384) where
-  module _ (few : length (frames-in-use h) < 256) where
-    pub claim-in-use : FrameInUse (claim-frame h) (next-frame h)
+  module _ (few : length (frames-in-use h) < 256) (m : ℕ) where
+    pub claim-in-use : FrameInUse (claim-frame h m) (next-frame h)
     unfolding claim-frame
-    claim-in-use = record { small = next-frame-below h few; used = take-frame-used h (next-frame h) (s .size) (next-frame-below h few) }
+    claim-in-use = record { small = next-frame-below h few; used = take-frame-used h (next-frame h) m (s .size) (next-frame-below h few) }
 
-    pub claim-leaves : Leaves h t 1 0 (claim-frame h) t
+    pub claim-leaves : Leaves h t 1 0 (claim-frame h m) t
     unfolding claim-frame
     claim-leaves =
         let below = next-frame-below h few in
         record {
-          header = header-kept (keeps-claim h);
+          header = header-kept (keeps-claim h m);
           stay = stays below;
-          stay-text = texts-stay (take-frame-texts h s (next-frame h) below .in-use);
-          sized = take-frame-sized h s (next-frame h) below;
+          stay-text = texts-stay (take-frame-texts h s (next-frame h) m below .in-use);
+          sized = take-frame-sized h s (next-frame h) m below;
           text-size = size;
-          frames = let e = take-frame-count-one h s (next-frame h) below (next-frame-free h few) in omega arith;
-          texts = let e = ap length (take-frame-texts h s (next-frame h) below .in-use) in omega arith;
+          frames = let e = take-frame-count-one h s (next-frame h) m below (next-frame-free h few) in omega arith;
+          texts = let e = ap length (take-frame-texts h s (next-frame h) m below .in-use) in omega arith;
         }
       where
-        stays : next-frame h < 256 → (g : ℕ) → FrameInUse h g → FrameInUse (take-frame h (next-frame h)) g
+        stays : next-frame h < 256 → (g : ℕ) → FrameInUse h g → FrameInUse (take-frame h (next-frame h) m) g
         stays below g u = record {
           small = u .small;
           used =
-              take-frame-others h s (next-frame h) below g
+              take-frame-others h s (next-frame h) m below g
               (λ e. absurd (true≢false (sym (u .used) ∙ ap (frame-used h) e ∙ next-frame-free h few)))
               ∙ u .used;
         }

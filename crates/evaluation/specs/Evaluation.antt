@@ -11,7 +11,7 @@ use Rattle.tables.specs.Entries.{expression-at}
 use Rattle.tables.specs.Fields.{expressions, expression-kind, slot-name, slot-after}
 use Rattle.program_form.specs.Sound.{SlotPlace}
 use Rattle.trees.specs.Held as trees
-use Rattle.heap.specs.Words.{self-held, program-held, add-slot}
+use Rattle.heap.specs.Words.{self-held, program-held, position, add-slot}
 use Rattle.heap.specs.Closed.{ValueFits, FrameInUse}
 use Rattle.allocation.specs.Allocation.{next-frame}
 use Rattle.bounded.specs.Bounded.{value-given, evaluate, fill}
@@ -20,10 +20,10 @@ use Rattle.word_store.specs.Store.{word-store, claim-frame}
 use Rattle.word_store.specs.State.{store-held}
 use Rattle.producing.specs.Producing.{HasRoom, Writable, Leaves, made}
 
--- a frame is claimed
+-- a frame is claimed: its maker is the instruction at the position, 0 before the start
 pub record Claims (h : List ℕ) (r : ℕ) (h′ : List ℕ) : Type 0 where
   pub answer : r ≡ next-frame h
-  pub words : h′ ≡ claim-frame h
+  pub words : h′ ≡ claim-frame h (position h)
 
 -- the string and code literals of the program that p and l hold
 abbrev pub program-constants : List ℕ → List ℕ → Constants
@@ -44,7 +44,7 @@ pub record Flat (p l h t : List ℕ) (x : ℕ) : Type 0 where
 
 -- the answer and the memories at exit
 pub record Evaluates (p l h t : List ℕ) (x : ℕ) (r : Value) (h′ t′ : List ℕ) : Type 0 where
-  pub produced : evaluate word-store (program-constants p l) (self-held h) (program-held h) (trees.expression-held p x) (store-held h t) ≡ made r h′ t′
+  pub produced : evaluate word-store (program-constants p l) (position h) (self-held h) (program-held h) (trees.expression-held p x) (store-held h t) ≡ made r h′ t′
   pub leaves : Leaves h t (frame-literals (trees.expression-held p x)) (join-signs (trees.expression-held p x)) h′ t′
   -- as every value of the code
   pub fits : ValueFits r
@@ -59,7 +59,7 @@ pub record CanFill (p l h t : List ℕ) (f z : ℕ) : Type 0 where
   pub room : HasRoom h (frame-literals-in (trees.slots-held p z)) (join-signs-in (trees.slots-held p z))
 
 pub record Fills (p l h t : List ℕ) (f z : ℕ) (h′ t′ : List ℕ) : Type 0 where
-  pub stored : fill word-store (program-constants p l) (self-held h) (program-held h) f (trees.slots-held p z) (store-held h t) ≡ store-held h′ t′
+  pub stored : fill word-store (program-constants p l) (position h) (self-held h) (program-held h) f (trees.slots-held p z) (store-held h t) ≡ store-held h′ t′
   pub leaves : Leaves h t (frame-literals-in (trees.slots-held p z)) (join-signs-in (trees.slots-held p z)) h′ t′
 
 -- ---- Bases among the slots

@@ -3,9 +3,9 @@ use Prim.Native.Nat.{ℕ, _≤_, _<_}
 use mathlib.Core.Path.{_≡_, refl}
 use mathlib.Core.List.{List}
 use mathlib.Core.Bool.{Bool, true, false, _&&_, _||_}
-use lib.Dec.{eqb, ltb}
+use lib.Dec.{eqb, ltb, leb}
 use borrow.Author.Tests.{ne-eqb, le-leb, lt-leb}
-use Rattle.heap.specs.Words.{frame-word, slot-count-at}
+use Rattle.heap.specs.Words.{frame-word, slot-count-at, maker-at}
 use Rattle.frame_form.specs.declared.Limits.{Limits}
 use Rattle.frame_form.specs.Tests.{frame-in-use, text-in-use, value-formed, slots-formed, frame-formed}
 
@@ -54,6 +54,6 @@ module _ (h : List ℕ) (l : Limits) (f w : ℕ) (ew : w ≡ frame-word h f) whe
     unfolding frame-formed
     frame-many lt = rw (← ew, ne-eqb w 0 ne, ← en, lt-leb n 16 lt)
 
-    pub frame-on : n ≤ 16 → (b : Bool) → b ≡ slots-formed h l f n → eqb w 1 && b ≡ frame-formed h l f
+    pub frame-on : n ≤ 16 → (m : ℕ) (b : Bool) → m ≡ maker-at h f → b ≡ slots-formed h l f n → eqb w 1 && leb m (l .instructions) && b ≡ frame-formed h l f
     unfolding frame-formed
-    frame-on le b eb = rw (← ew, ne-eqb w 0 ne, ← en, le-leb n 16 le, eb)
+    frame-on le m b em eb = rw (← ew, ne-eqb w 0 ne, ← en, le-leb n 16 le, em, eb)

@@ -5,7 +5,7 @@ use mathlib.Core.List.{List}
 use mathlib.Core.Bool.{Bool, not, _&&_, _||_}
 use lib.Dec.{eqb, leb, ltb}
 use Rattle.words.specs.Words.{all-below}
-use Rattle.heap.specs.Words.{frame-word, frame-used, slot-count-at, slot-name-at, slot-tag-at, slot-number-at, text-used}
+use Rattle.heap.specs.Words.{frame-word, frame-used, maker-at, slot-count-at, slot-name-at, slot-tag-at, slot-number-at, text-used}
 use Rattle.frame_form.specs.declared.Limits.{Limits}
 
 unfoldable pub frame-in-use : List ℕ → ℕ → Bool
@@ -35,7 +35,7 @@ slots-formed h l f n = all-below (slot-formed h l f) n
 unfoldable pub frame-formed : List ℕ → Limits → ℕ → Bool
 frame-formed h l f =
     eqb (frame-word h f) 0
-    || (leb (slot-count-at h f) 16 && (eqb (frame-word h f) 1 && slots-formed h l f (slot-count-at h f)))
+    || (leb (slot-count-at h f) 16 && (eqb (frame-word h f) 1 && leb (maker-at h f) (l .instructions) && slots-formed h l f (slot-count-at h f)))
 
 unfoldable pub frames-formed : List ℕ → Limits → Bool
 frames-formed h l = all-below (frame-formed h l) 256

@@ -102,7 +102,7 @@ fn frame_formed(h: &[u32], limits: Limits, f: u32) -> bool
     if 16 < n {
         return false;
     }
-    (w == 1) & slots_formed(h, limits, f, n)
+    (w == 1) & (heap::maker(h, f) <= limits.instructions) & slots_formed(h, limits, f, n)
 }
 
 pub fn frames_formed(h: &[u32], limits: Limits) -> bool

@@ -47,22 +47,22 @@ module _ (K : Constants) (Σ Π : Value) (h : Heap) where
   no-value-of : (b : Base Path) → base-value Σ Π (h .frames) b ≡ ends 31 → (v : Value) → ¬ B⇒ Σ Π (h .frames) b v
   no-value-of b e v d = ends≢gives (sym e ∙ base-complete d)
 
-  module _ (a b : Base Path) where
-    ends-31 : evaluate K Σ Π (Expression.operation Operator.join a b) h ≡ ends 31
+  module _ (n : ℕ) (a b : Base Path) where
+    ends-31 : evaluate K n Σ Π (Expression.operation Operator.join a b) h ≡ ends 31
         → ((v : Value) → ¬ B⇒ Σ Π (h .frames) a v) ⊎ ((w : Value) → ¬ B⇒ Σ Π (h .frames) b w)
     unfolding evaluate
     ends-31 e =
-        bind-ends (base-value Σ Π (h .frames) a) _ e (λ n. inl (no-value-of a n)) λ v p f.
-        bind-ends (base-value Σ Π (h .frames) b) _ f (λ n. inr (no-value-of b n)) λ w q g.
+        bind-ends (base-value Σ Π (h .frames) a) _ e (λ q. inl (no-value-of a q)) λ v p f.
+        bind-ends (base-value Σ Π (h .frames) b) _ f (λ q. inr (no-value-of b q)) λ w q g.
         absurd (let z = ended K v w h 31 g .1 in omega arith)
 
     is-31 : ((v : Value) → ¬ B⇒ Σ Π (h .frames) a v) ⊎ ((w : Value) → ¬ B⇒ Σ Π (h .frames) b w)
-        → evaluate K Σ Π (Expression.operation Operator.join a b) h ≡ ends 31
+        → evaluate K n Σ Π (Expression.operation Operator.join a b) h ≡ ends 31
     unfolding evaluate
     is-31 (inl none) = ends-bind _ (undefined a none)
     is-31 (inr none) = of (base-value Σ Π (h .frames) a) refl
       where
-        of : (r : Result Value) → base-value Σ Π (h .frames) a ≡ r → evaluate K Σ Π (Expression.operation Operator.join a b) h ≡ ends 31
+        of : (r : Result Value) → base-value Σ Π (h .frames) a ≡ r → evaluate K n Σ Π (Expression.operation Operator.join a b) h ≡ ends 31
         of (gives v) e = gives-bind _ e (ends-bind _ (undefined b none))
         of (ends k) e = ends-bind _ (e ∙ ap ends (base-ends Σ Π (h .frames) a e))
 
@@ -72,5 +72,5 @@ join-total =
       gives-text = short;
       too-long = λ K v w h. ((λ q. ended K v w h 34 q .0), long K v w h);
       no-other-end = λ K v w h e q. sym (ended K v w h e q .1);
-      no-value = λ K Σ Π a b h. (ends-31 K Σ Π h a b, is-31 K Σ Π h a b);
+      no-value = λ K n Σ Π a b h. (ends-31 K Σ Π h n a b, is-31 K Σ Π h n a b);
     }

@@ -21,4 +21,7 @@ pub mod Runs
 pub mod RunJudged
 pub mod ProgramJudged
 pub mod PathWritten
+pub mod Parts
+pub mod InstructionsNumbered
+pub mod MakersCounted
 pub mod Examples

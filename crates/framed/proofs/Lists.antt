@@ -5,7 +5,7 @@ use mathlib.Core.List.{List, [], _∷_, _++_}
 use mathlib.Core.Option.{some}
 use Prim.Native.Nat.{ℕ, zero, suc, _+_}
 use native.Mathlib.Omega.{arith}
-use lib.ListN.{getElem?}
+use lib.ListN.{length, getElem?}
 use lib.Dec.{eqb}
 use borrow.Author.Tests.{eqb-true, eq-eqb}
 use Rattle.framed.specs.Common.{any, count, member, same, has-twice, _∈_, here, later, Twice}
@@ -45,6 +45,10 @@ module _ {A : Type 0} where
   place-in [] i e = absurd (none≢some e)
   place-in (y ∷ xs) zero e = subst (λ (z : A). z ∈ (y ∷ xs)) (some-inj e) here
   place-in (y ∷ xs) (suc i) e = later (place-in xs i e)
+
+  pub get-seam : (xs : List A) (y : A) (ys : List A) → getElem? (xs ++ y ∷ ys) (length xs) ≡ some y
+  get-seam [] y ys = refl
+  get-seam (x ∷ xs) y ys = get-seam xs y ys
 
 -- a place in a list of two parts is in one of them
 module _ {A C : Type 0} where

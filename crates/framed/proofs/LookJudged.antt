@@ -31,7 +31,7 @@ module _ (p : Program) (s : State) where
       go (some v) e = absurd (n v (finds w v .0 e))
 
   module _ (w : Written) where
-    kind-found : (o : Option Value) → look-from s w ≡ o → LooksAs s w (elim o [ none ↦ Look.refused 22 | some v ↦ kind v ])
+    kind-found : (o : Option Value) → look-from s w ≡ o → LooksAs s w (elim o [ none ↦ Look.refused 22 | some v ↦ kind (s .heap .frames) v ])
     kind-found none e = undefined (λ v d. none≢some (sym e ∙ finds w v .1 d))
     kind-found (some v) e = found (finds w v .0 e)
 
@@ -40,7 +40,7 @@ module _ (p : Program) (s : State) where
     text-bytes-found (some v) e = text-found (finds w v .0 e)
 
     module _ (text : List ℕ) (path : read-path p (tokens class text) ≡ some w) where
-      look-is : (o : Option Value) → look-from s w ≡ o → look p s text ≡ (elim o [ none ↦ Look.refused 22 | some v ↦ kind v ])
+      look-is : (o : Option Value) → look-from s w ≡ o → look p s text ≡ (elim o [ none ↦ Look.refused 22 | some v ↦ kind (s .heap .frames) v ])
       unfolding look
       look-is o e = rw (path, look, e)
 

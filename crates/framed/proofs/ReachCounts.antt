@@ -171,7 +171,7 @@ lower-number k n (f ∷ fs) seen l =
 
 -- a frame that is seen now takes its slots away
 weight-seen : (k j n : ℕ) (fs : List Frame) (seen : List ℕ) → n ≡ k + j → member n seen ≡ false →
-    slot-count (getD fs j (new-frame [])) + weight k fs (n ∷ seen) ≡ weight k fs seen
+    slot-count (getD fs j (new-frame 0 [])) + weight k fs (n ∷ seen) ≡ weight k fs seen
 unfolding weight slot-count
 weight-seen k j n [] seen e h = refl
 weight-seen k zero n (f ∷ fs) seen e h =
@@ -182,7 +182,7 @@ weight-seen k zero n (f ∷ fs) seen e h =
     omega arith
 weight-seen k (suc j) n (f ∷ fs) seen e h =
     let a : (if member k (n ∷ seen) then 0 else slot-count f) ≡ (if member k seen then 0 else slot-count f) = slots-left k n f seen (omega arith) in
-    let b : slot-count (getD fs j (new-frame [])) + weight (suc k) fs (n ∷ seen) ≡ weight (suc k) fs seen = weight-seen (suc k) j n fs seen (omega arith) h in
+    let b : slot-count (getD fs j (new-frame 0 [])) + weight (suc k) fs (n ∷ seen) ≡ weight (suc k) fs seen = weight-seen (suc k) j n fs seen (omega arith) h in
     omega arith
 
 weight-all : (k : ℕ) (fs : List Frame) → weight k fs [] ≡ total slot-count fs
@@ -242,9 +242,9 @@ module _ (frames : List Frame) where
     closes = f .closes;
   }
 
-  slots-of : (n : ℕ) → length (values-in frames n) ≡ slot-count (getD frames n (new-frame []))
+  slots-of : (n : ℕ) → length (values-in frames n) ≡ slot-count (getD frames n (new-frame 0 []))
   unfolding values-in slot-count
-  slots-of n = length-map (getD frames n (new-frame []) .slots) slot-value
+  slots-of n = length-map (getD frames n (new-frame 0 []) .slots) slot-value
 
   visit-complete : (k : ℕ) (vs : List Value) (seen : List ℕ) → length vs + weight 0 frames seen ≤ k → Closed vs seen → Complete vs seen (visit k frames vs seen)
   visit-complete k vs seen =

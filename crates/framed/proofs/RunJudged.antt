@@ -29,7 +29,7 @@ module _ (p : Program) (F T : ℕ) (s : State) (i : Instruction Path) (rest : Co
   unfolding by-reserve
   step-room x q = go (reserve-room F T s i) (sym (step-is p F T s i rest) ∙ q)
     where
-      go : {n k r : ℕ} → Room F T n k r → by-reserve r (perform p (s .self) (s .program) (s .heap) rest i) ≡ gives x → r ≡ 0
+      go : {n k r : ℕ} → Room F T n k r → by-reserve r (perform p (s .next) (s .self) (s .program) (s .heap) rest i) ≡ gives x → r ≡ 0
       go (room a b) q = refl
       go (no-frames a) q = absurd (ends≢gives q)
       go (no-texts a b) q = absurd (ends≢gives q)
@@ -38,8 +38,8 @@ module _ (p : Program) (F T : ℕ) (s : State) (i : Instruction Path) (rest : Co
   unfolding by-reserve
   step-number e q = go (reserve-room F T s i) (sym (step-is p F T s i rest) ∙ q)
     where
-      go : {n k r : ℕ} → Room F T n k r → by-reserve r (perform p (s .self) (s .program) (s .heap) rest i) ≡ ends e → 31 ≤ e
-      go (room a b) q = rule-number p rest (s .self) (s .program) (s .heap) i q
+      go : {n k r : ℕ} → Room F T n k r → by-reserve r (perform p (s .next) (s .self) (s .program) (s .heap) rest i) ≡ ends e → 31 ≤ e
+      go (room a b) q = rule-number p (s .next) rest (s .self) (s .program) (s .heap) i q
       go (no-frames a) q = let d = ends-inj q in omega arith
       go (no-texts a b) q = let d = ends-inj q in omega arith
 
@@ -62,12 +62,12 @@ module _ (p : Program) where
       RunsTo p (u .state) (t .self) (t .program) (t .heap) (r .bytes) × (t .remaining ≡ Code.finished) × (t .end-mark ≡ 0)
 
   nothing-left : (s : State) → s .remaining ≡ Code.finished → RunsTo p s (s .self) (s .program) (s .heap) []
-  nothing-left s e = subst (λ (cs : Code Path). C⇒ p cs (s .self) (s .program) (s .heap) (s .self) (s .program) (s .heap) []) (sym e) c-empty
+  nothing-left s e = subst (λ (cs : Code Path). C⇒ p (s .next) cs (s .self) (s .program) (s .heap) (s .self) (s .program) (s .heap) []) (sym e) c-empty
 
   one-step : (s : State) (i : Instruction Path) (rest : Code Path) (x : Effect) (Σ Π : Value) (h : Heap) (bs : List ℕ) → s .remaining ≡ (i then rest) → Rule p s rest i x →
       RunsTo p (after-step s x) Σ Π h bs → RunsTo p s Σ Π h (x .line ++ bs)
   unfolding after-step
-  one-step s i rest x Σ Π h bs e d c = subst (λ (cs : Code Path). C⇒ p cs (s .self) (s .program) (s .heap) Σ Π h (x .line ++ bs)) (sym e) (c-not-empty d c)
+  one-step s i rest x Σ Π h bs e d c = subst (λ (cs : Code Path). C⇒ p (s .next) cs (s .self) (s .program) (s .heap) Σ Π h (x .line ++ bs)) (sym e) (c-not-empty d c)
 
   judged : (F T fuel space : ℕ) (u : Unbounded) → run p F T fuel space u .stop ≡ Stopped.end 0 → Judged u (run p F T fuel space u)
   unfolding one-more advanced
@@ -90,9 +90,9 @@ unfolding one-more
 more line d = record { stop = d .stop; made = ap suc (d .made); shown = ap (λ (l : List ℕ). line ++ l) (d .shown); state = d .state }
 
 -- a machine without end mark, by the parts of its state
-abbrev machine : Code Path → Value → Value → Heap → List ℕ → ℕ → Bool → Unbounded
-machine cs Σ Π h shown made tried =
-    record { state = record { remaining = cs; self = Σ; program = Π; heap = h; end-mark = 0 }; shown = shown; made = made; tried = tried }
+abbrev machine : ℕ → Code Path → Value → Value → Heap → List ℕ → ℕ → Bool → Unbounded
+machine n cs Σ Π h shown made tried =
+    record { state = record { remaining = cs; next = n; self = Σ; program = Π; heap = h; end-mark = 0 }; shown = shown; made = made; tried = tried }
 
 still-full : {F T : ℕ} {r : Ran} (line : List ℕ) → EndsFull F T r → EndsFull F T (one-more line r)
 unfolding one-more
@@ -100,9 +100,9 @@ still-full line (frames-full i rest e n l) = frames-full i rest e n l
 still-full line (texts-full i rest e n l) = texts-full i rest e n l
 
 -- one step more at the front
-module _ (p : Program) (i : Instruction Path) (cs : Code Path) (Σ Π Σ′ Π′ : Value) (h h′ : Heap) (x : Effect) (bs shown : List ℕ) (made : ℕ) (tried : Bool) where
+module _ (p : Program) (n : ℕ) (i : Instruction Path) (cs : Code Path) (Σ Π Σ′ Π′ : Value) (h h′ : Heap) (x : Effect) (bs shown : List ℕ) (made : ℕ) (tried : Bool) where
   abbrev u : Unbounded
-  u = machine (i then cs) Σ Π h shown made tried
+  u = machine n (i then cs) Σ Π h shown made tried
 
   abbrev s : State
   s = u .state
@@ -125,7 +125,7 @@ module _ (p : Program) (i : Instruction Path) (cs : Code Path) (Σ Π Σ′ Π�
       -- without, the run ends
       ends-now : (fuel e : ℕ) → reserve F T (h .frames) Σ Π i ≡ suc e → run p F T (suc fuel) space u ≡ stopped (Stopped.end (suc e)) (ended (suc e) u)
       unfolding position position-in by-reserve
-      ends-now fuel e r = run-ends p F T fuel space u i cs (suc e) refl (step-is p F T s i cs ∙ ap (λ (n : ℕ). by-reserve n (perform p Σ Π h cs i)) r)
+      ends-now fuel e r = run-ends p F T fuel space u i cs (suc e) refl (step-is p F T s i cs ∙ ap (λ (r : ℕ). by-reserve r (perform p n Σ Π h cs i)) r)
 
       done-or-full-then : (fuel : ℕ) → suc (next .steps) ≤ fuel → Done (run p F T fuel space u) (suc (next .steps)) Σ′ Π′ h′ (x .line ++ bs) ⊎ EndsFull F T (run p F T fuel space u)
       unfolding ended marked frame-total text-total
@@ -159,30 +159,30 @@ module _ (p : Program) (i : Instruction Path) (cs : Code Path) (Σ Π Σ′ Π�
     }
 
 module _ (p : Program) where
-  done-at-once : (Σ Π : Value) (h : Heap) (shown : List ℕ) (made : ℕ) (tried : Bool) (F T fuel space : ℕ) →
-      Done (run p F T fuel space (machine Code.finished Σ Π h shown made tried)) 0 Σ Π h []
+  done-at-once : (n : ℕ) (Σ Π : Value) (h : Heap) (shown : List ℕ) (made : ℕ) (tried : Bool) (F T fuel space : ℕ) →
+      Done (run p F T fuel space (machine n Code.finished Σ Π h shown made tried)) 0 Σ Π h []
   unfolding position position-in
-  done-at-once Σ Π h shown made tried F T fuel space =
-      rw (run-at-end p F T fuel space (machine Code.finished Σ Π h shown made tried) 0 refl) (record { stop = refl; made = refl; shown = refl; state = refl })
+  done-at-once n Σ Π h shown made tried F T fuel space =
+      rw (run-at-end p F T fuel space (machine n Code.finished Σ Π h shown made tried) 0 refl) (record { stop = refl; made = refl; shown = refl; state = refl })
 
-  leads-from : {cs : Code Path} {Σ Π Σ′ Π′ : Value} {h h′ : Heap} {bs : List ℕ} → C⇒ p cs Σ Π h Σ′ Π′ h′ bs → (shown : List ℕ) (made : ℕ) (tried : Bool) →
-      Leads p (machine cs Σ Π h shown made tried) Σ′ Π′ h′ bs
+  leads-from : {n : ℕ} {cs : Code Path} {Σ Π Σ′ Π′ : Value} {h h′ : Heap} {bs : List ℕ} → C⇒ p n cs Σ Π h Σ′ Π′ h′ bs → (shown : List ℕ) (made : ℕ) (tried : Bool) →
+      Leads p (machine n cs Σ Π h shown made tried) Σ′ Π′ h′ bs
   unfolding advanced after-step
-  leads-from (c-empty {Σ} {Π} {h}) shown made tried = record {
+  leads-from (c-empty {n} {Σ} {Π} {h}) shown made tried = record {
     steps = 0;
-    done-or-full = λ F T fuel space l fits. inl (done-at-once Σ Π h shown made tried F T fuel space);
+    done-or-full = λ F T fuel space l fits. inl (done-at-once n Σ Π h shown made tried F T fuel space);
     frames = 0;
     texts = 0;
-    done = λ F T fuel space a b l fits. done-at-once Σ Π h shown made tried F T fuel space;
+    done = λ F T fuel space a b l fits. done-at-once n Σ Π h shown made tried F T fuel space;
   }
-  leads-from (c-not-empty {c} {cs} {cs′} {Σ} {Π} {Σ′} {Π′} {Σ″} {Π″} {h} {h′} {h″} {line} {bs} d e) shown made tried =
-      then-leads p c cs Σ Π Σ″ Π″ h h″ (record { remaining = cs′; self = Σ′; program = Π′; heap = h′; line = line }) bs shown made tried d (leads-from e (shown ++ line) (suc made) false)
+  leads-from (c-not-empty {c} {n} {n′} {cs} {cs′} {Σ} {Π} {Σ′} {Π′} {Σ″} {Π″} {h} {h′} {h″} {line} {bs} d e) shown made tried =
+      then-leads p n c cs Σ Π Σ″ Π″ h h″ (record { remaining = cs′; next = n′; self = Σ′; program = Π′; heap = h′; line = line }) bs shown made tried d (leads-from e (shown ++ line) (suc made) false)
 
   -- for any machine without end mark
   leads : (u : Unbounded) (Σ Π : Value) (h : Heap) (bs : List ℕ) → u .state .end-mark ≡ 0 → RunsTo p (u .state) Σ Π h bs → Leads p u Σ Π h bs
   leads u Σ Π h bs m c =
       let s = u .state in
-      subst (λ (e : ℕ). Leads p (record { state = record { remaining = s .remaining; self = s .self; program = s .program; heap = s .heap; end-mark = e }; shown = u .shown; made = u .made; tried = u .tried }) Σ Π h bs)
+      subst (λ (e : ℕ). Leads p (record { state = record { remaining = s .remaining; next = s .next; self = s .self; program = s .program; heap = s .heap; end-mark = e }; shown = u .shown; made = u .made; tried = u .tried }) Σ Π h bs)
       (sym m) (leads-from c (u .shown) (u .made) (u .tried))
 
   -- two results are those of one run
@@ -200,7 +200,7 @@ run-judged = record {
   done = λ p F T fuel space u e.
       let c = judged p F T fuel space u e in
       let t = run p F T fuel space u .machine .state in
-      (c .0, record { stop = e; made = refl; shown = refl; state = λ i. record { remaining = c .1 i; self = t .self; program = t .program; heap = t .heap; end-mark = c .2 i } });
+      (c .0, record { stop = e; made = refl; shown = refl; state = λ i. record { remaining = c .1 i; next = t .next; self = t .self; program = t .program; heap = t .heap; end-mark = c .2 i } });
   leads = leads;
   one-result = one-result;
 }

@@ -23,7 +23,7 @@ unfoldable pub by-reserve : ℕ → Result Effect → Result Effect
 by-reserve r q = elim r [ zero ↦ q | suc n ↦ ends (suc n) ]
 
 pub step-is : (p : Program) (F T : ℕ) (s : State) (i : Instruction Path) (rest : Code Path) →
-    step p F T s i rest ≡ by-reserve (reserve F T (s .heap .frames) (s .self) (s .program) i) (perform p (s .self) (s .program) (s .heap) rest i)
+    step p F T s i rest ≡ by-reserve (reserve F T (s .heap .frames) (s .self) (s .program) i) (perform p (s .next) (s .self) (s .program) (s .heap) rest i)
 unfolding step by-reserve
 step-is p F T s i rest = refl
 

@@ -23,7 +23,7 @@ use Rattle.framed.specs.Program.{Program}
 use Rattle.framed.specs.Values.{Slot, Frame, Heap, with-slots, join-bytes, truth, bit}
 use Rattle.framed.specs.Equality.{Constants, constants}
 use Rattle.framed.specs.Fetch.{in-frame, frame-of, get, fetch}
-use Rattle.framed.specs.Machine.{Result, gives, ends, defined, base-value, Evaluated, evaluated, integer-in, integer-result, quotient, new-text, operate, evaluate, fill, Filled, with-frame, Effect, becomes, set-slot, holds, frame-number, put-slot, put, assign-to, code-of, jump-to, perform, State, Ready, step}
+use Rattle.framed.specs.Machine.{Result, gives, ends, defined, base-value, Evaluated, evaluated, integer-in, integer-result, quotient, new-text, operate, evaluate, fill, Filled, with-frame, Effect, becomes, set-slot, holds, frame-number, put-slot, put, assign-to, code-number, following, first-of, jump-to, perform, State, Ready, step}
 use Rattle.framed.specs.Machine as M
 use Rattle.framed.specs.Theorems.{StepJudged}
 use Rattle.framed.proofs.General.{is-true, is-false, to-true, to-false}
@@ -287,9 +287,9 @@ not-other : (h : Heap) (v : Value) → v ≢ zero-value → evaluated (bit (not 
 unfolding bit
 not-other h v n = rw (true-of v n)
 
-module _ (K : Constants) (Σ Π : Value) where
+module _ (K : Constants) (ν : ℕ) (Σ Π : Value) where
   not-sound : (b : Base Path) (h : Heap) (v : Value) (t : Bool) → truth v ≡ t → B⇒ Σ Π (h .frames) b v →
-      E⇒ K Σ Π (Expression.not b) h (bit (not t)) h
+      E⇒ K ν Σ Π (Expression.not b) h (bit (not t)) h
   unfolding bit
   not-sound b h v true e d = e-not₂ d (truth-true e)
   not-sound b h v false e d = e-not₁ (subst (λ (w : Value). B⇒ Σ Π (h .frames) b w) (truth-false v e) d)
@@ -297,7 +297,7 @@ module _ (K : Constants) (Σ Π : Value) where
   mutual
     unfolding evaluate
 
-    pub evaluate-sound : (x : Expression Path) (h : Heap) (r : Evaluated) → evaluate K Σ Π x h ≡ gives r → E⇒ K Σ Π x h (r .value) (r .heap)
+    pub evaluate-sound : (x : Expression Path) (h : Heap) (r : Evaluated) → evaluate K ν Σ Π x h ≡ gives r → E⇒ K ν Σ Π x h (r .value) (r .heap)
     evaluate-sound (Expression.base b) h r e =
         bind-gives (base-value Σ Π (h .frames) b) _ e λ v p q.
         rw (← gives-inj q) (e-base (base-sound Σ Π (h .frames) b p))
@@ -309,21 +309,21 @@ module _ (K : Constants) (Σ Π : Value) where
         bind-gives (base-value Σ Π (h .frames) b) _ f λ w q g.
         e-op (base-sound Σ Π (h .frames) a p) (base-sound Σ Π (h .frames) b q) (operate-sound K h o v w r g)
     evaluate-sound (Expression.frame ss) h r e =
-        bind-gives (fill K Σ Π ss (with-frame h)) _ e λ x p q.
-        rw (← gives-inj q) (e-frame refl (fill-sound ss (with-frame h) x p) refl)
+        bind-gives (fill K ν Σ Π ss (with-frame ν h)) _ e λ x p q.
+        rw (← gives-inj q) (e-frame refl (fill-sound ss (with-frame ν h) x p) refl)
 
-    fill-sound : (ss : Slots Path) (h : Heap) (r : Filled) → fill K Σ Π ss h ≡ gives r → Slots⇒ K Σ Π ss h (r .slots) (r .heap)
+    fill-sound : (ss : Slots Path) (h : Heap) (r : Filled) → fill K ν Σ Π ss h ≡ gives r → Slots⇒ K ν Σ Π ss h (r .slots) (r .heap)
     fill-sound Slots.no-slots h r e = rw (← gives-inj e) s-none
     fill-sound (Slots.slot n x ss) h r e =
-        bind-gives (evaluate K Σ Π x h) _ e λ y p f.
-        bind-gives (fill K Σ Π ss (y .heap)) _ f λ z q g.
+        bind-gives (evaluate K ν Σ Π x h) _ e λ y p f.
+        bind-gives (fill K ν Σ Π ss (y .heap)) _ f λ z q g.
         rw (← gives-inj g) (s-slot (evaluate-sound x h y p) refl (fill-sound ss (y .heap) z q))
 
   mutual
     unfolding evaluate
 
     pub evaluate-complete : {x : Expression Path} {h : Heap} {v : Value} {h′ : Heap} →
-        E⇒ K Σ Π x h v h′ → evaluate K Σ Π x h ≡ gives (record { value = v; heap = h′ })
+        E⇒ K ν Σ Π x h v h′ → evaluate K ν Σ Π x h ≡ gives (record { value = v; heap = h′ })
     evaluate-complete (e-base d) = gives-bind _ (base-complete d) refl
     evaluate-complete {h = h} (e-op c d o) = gives-bind _ (base-complete c) (gives-bind _ (base-complete d) (operate-complete K h o))
     evaluate-complete {h = h} (e-not₁ d) = gives-bind _ (base-complete d) (not-zero h)
@@ -331,14 +331,14 @@ module _ (K : Constants) (Σ Π : Value) where
     evaluate-complete (e-frame p d q) = gives-bind _ (fill-complete d) (rw (q, p))
 
     fill-complete : {ss : Slots Path} {h : Heap} {f : List Slot} {h′ : Heap} →
-        Slots⇒ K Σ Π ss h f h′ → fill K Σ Π ss h ≡ gives (record { slots = f; heap = h′ })
+        Slots⇒ K ν Σ Π ss h f h′ → fill K ν Σ Π ss h ≡ gives (record { slots = f; heap = h′ })
     fill-complete s-none = refl
     fill-complete (s-slot c p d) = gives-bind _ (evaluate-complete c) (gives-bind _ (fill-complete d) (rw p))
 
   mutual
     unfolding evaluate
 
-    evaluate-ends : (x : Expression Path) (h : Heap) {k : ℕ} → evaluate K Σ Π x h ≡ ends k → (k ≡ 31) ⊎ ExpressionMeets K Σ Π x h k
+    evaluate-ends : (x : Expression Path) (h : Heap) {k : ℕ} → evaluate K ν Σ Π x h ≡ ends k → (k ≡ 31) ⊎ ExpressionMeets K ν Σ Π x h k
     evaluate-ends (Expression.base b) h e =
         bind-ends (base-value Σ Π (h .frames) b) _ e (λ n. inl (base-ends Σ Π (h .frames) b n)) λ v p q. absurd (gives≢ends q)
     evaluate-ends (Expression.not b) h e =
@@ -348,24 +348,24 @@ module _ (K : Constants) (Σ Π : Value) where
         bind-ends (base-value Σ Π (h .frames) b) _ f (λ n. inl (base-ends Σ Π (h .frames) b n)) λ w q g.
         ⊎-map (λ i. i) (in-operation (base-sound Σ Π (h .frames) a p) (base-sound Σ Π (h .frames) b q)) (operate-ends K h o v w g)
     evaluate-ends (Expression.frame ss) h e =
-        bind-ends (fill K Σ Π ss (with-frame h)) _ e (λ n. ⊎-map (λ i. i) in-a-frame (fill-ends ss (with-frame h) n)) λ x p q. absurd (gives≢ends q)
+        bind-ends (fill K ν Σ Π ss (with-frame ν h)) _ e (λ n. ⊎-map (λ i. i) in-a-frame (fill-ends ss (with-frame ν h) n)) λ x p q. absurd (gives≢ends q)
 
-    fill-ends : (ss : Slots Path) (h : Heap) {k : ℕ} → fill K Σ Π ss h ≡ ends k → (k ≡ 31) ⊎ SlotsMeet K Σ Π ss h k
+    fill-ends : (ss : Slots Path) (h : Heap) {k : ℕ} → fill K ν Σ Π ss h ≡ ends k → (k ≡ 31) ⊎ SlotsMeet K ν Σ Π ss h k
     fill-ends Slots.no-slots h e = absurd (gives≢ends e)
     fill-ends (Slots.slot n x ss) h e =
-        bind-ends (evaluate K Σ Π x h) _ e (λ n. ⊎-map (λ i. i) in-first (evaluate-ends x h n)) λ y p f.
-        bind-ends (fill K Σ Π ss (y .heap)) _ f
+        bind-ends (evaluate K ν Σ Π x h) _ e (λ n. ⊎-map (λ i. i) in-first (evaluate-ends x h n)) λ y p f.
+        bind-ends (fill K ν Σ Π ss (y .heap)) _ f
         (λ n. ⊎-map (λ i. i) (in-later (evaluate-sound x h y p)) (fill-ends ss (y .heap) n))
         λ z q g. absurd (gives≢ends g)
 
   mutual
     unfolding evaluate
 
-    evaluate-meets : {x : Expression Path} {h : Heap} {k : ℕ} → ExpressionMeets K Σ Π x h k → evaluate K Σ Π x h ≡ ends k
+    evaluate-meets : {x : Expression Path} {h : Heap} {k : ℕ} → ExpressionMeets K ν Σ Π x h k → evaluate K ν Σ Π x h ≡ ends k
     evaluate-meets {h = h} (in-operation c d m) = gives-bind _ (base-complete c) (gives-bind _ (base-complete d) (operate-meets K h m))
     evaluate-meets (in-a-frame m) = ends-bind _ (fill-meets m)
 
-    fill-meets : {ss : Slots Path} {h : Heap} {k : ℕ} → SlotsMeet K Σ Π ss h k → fill K Σ Π ss h ≡ ends k
+    fill-meets : {ss : Slots Path} {h : Heap} {k : ℕ} → SlotsMeet K ν Σ Π ss h k → fill K ν Σ Π ss h ≡ ends k
     fill-meets (in-first m) = ends-bind _ (evaluate-meets m)
     fill-meets (in-later d m) = gives-bind _ (evaluate-complete d) (ends-bind _ (fill-meets m))
 
@@ -490,24 +490,24 @@ some-names (further p q d) e = cons≢nil e
 
 -- ---- I
 
-code-of-gives : (codes : List (Code Path)) (v : Value) {is : Code Path} → code-of codes v ≡ gives is → (k : ℕ) × (v ≡ Value.Code k) × (getD codes k Code.finished ≡ is)
-unfolding code-of
-code-of-gives codes (Value.Int z) e = absurd (ends≢gives e)
-code-of-gives codes (Value.Text t) e = absurd (ends≢gives e)
-code-of-gives codes (Value.Code k) e = (k, refl, gives-inj e)
-code-of-gives codes (Value.Frame n) e = absurd (ends≢gives e)
+code-number-gives : (v : Value) {k : ℕ} → code-number v ≡ gives k → v ≡ Value.Code k
+unfolding code-number
+code-number-gives (Value.Int z) e = absurd (ends≢gives e)
+code-number-gives (Value.Text t) e = absurd (ends≢gives e)
+code-number-gives (Value.Code k) e = ap Value.Code (gives-inj e)
+code-number-gives (Value.Frame n) e = absurd (ends≢gives e)
 
-code-of-ends : (codes : List (Code Path)) (v : Value) {j : ℕ} → code-of codes v ≡ ends j → j ≡ 31
-unfolding code-of
-code-of-ends codes (Value.Int z) e = sym (ends-inj e)
-code-of-ends codes (Value.Text t) e = sym (ends-inj e)
-code-of-ends codes (Value.Code k) e = absurd (gives≢ends e)
-code-of-ends codes (Value.Frame n) e = sym (ends-inj e)
+code-number-ends : (v : Value) {j : ℕ} → code-number v ≡ ends j → j ≡ 31
+unfolding code-number
+code-number-ends (Value.Int z) e = sym (ends-inj e)
+code-number-ends (Value.Text t) e = sym (ends-inj e)
+code-number-ends (Value.Code k) e = absurd (gives≢ends e)
+code-number-ends (Value.Frame n) e = sym (ends-inj e)
 
-module _ (p : Program) (rest : Code Path) (Σ Π : Value) (h : Heap) where
+module _ (p : Program) (ν : ℕ) (rest : Code Path) (Σ Π : Value) (h : Heap) where
   -- the effect of an instruction, as a judgment
-  abbrev Gives : Instruction Path → Effect → Type 0
-  Gives i x = I⇒ p rest Σ Π h i (x .remaining) (x .self) (x .program) (x .heap) (x .line)
+  abbrev pub Gives : Instruction Path → Effect → Type 0
+  Gives i x = I⇒ p ν rest Σ Π h i (x .remaining) (x .next) (x .self) (x .program) (x .heap) (x .line)
 
   -- the operands of a jump
   record Jumps (a b : Base Path) (x : Effect) : Type 0 where
@@ -515,38 +515,37 @@ module _ (p : Program) (rest : Code Path) (Σ Π : Value) (h : Heap) where
     w : Value
     code : B⇒ Σ Π (h .frames) a (Value.Code k)
     self : B⇒ Σ Π (h .frames) b w
-    effect : record { remaining = getD (p .codes) k Code.finished; self = w; program = Π; heap = h; line = [] } ≡ x
+    effect : record { remaining = getD (p .codes) k Code.finished; next = first-of p k; self = w; program = Π; heap = h; line = [] } ≡ x
 
   jump-sound : (a b : Base Path) (x : Effect) → jump-to p Σ Π h a b ≡ gives x → Jumps a b x
   unfolding jump-to
   jump-sound a b x e =
       bind-gives (base-value Σ Π (h .frames) a) _ e λ v q f.
-      bind-gives (code-of (p .codes) v) _ f λ is c g.
+      bind-gives (code-number v) _ f λ k c g.
       bind-gives (base-value Σ Π (h .frames) b) _ g λ w r u.
-      let m = code-of-gives (p .codes) v c in
       record {
-        k = m .0;
+        k = k;
         w = w;
-        code = subst (λ (y : Value). B⇒ Σ Π (h .frames) a y) (m .1) (base-sound Σ Π (h .frames) a q);
+        code = subst (λ (y : Value). B⇒ Σ Π (h .frames) a y) (code-number-gives v c) (base-sound Σ Π (h .frames) a q);
         self = base-sound Σ Π (h .frames) b r;
-        effect = ap (λ (y : Code Path). record { remaining = y; self = w; program = Π; heap = h; line = [] }) (m .2) ∙ gives-inj u;
+        effect = gives-inj u;
       }
 
   jump-ends : (a b : Base Path) {j : ℕ} → jump-to p Σ Π h a b ≡ ends j → j ≡ 31
   unfolding jump-to
   jump-ends a b e =
       bind-ends (base-value Σ Π (h .frames) a) _ e (λ n. base-ends Σ Π (h .frames) a n) λ v q f.
-      bind-ends (code-of (p .codes) v) _ f (λ n. code-of-ends (p .codes) v n) λ is c g.
+      bind-ends (code-number v) _ f (λ n. code-number-ends v n) λ k c g.
       bind-ends (base-value Σ Π (h .frames) b) _ g (λ n. base-ends Σ Π (h .frames) b n) λ w r u.
       absurd (gives≢ends u)
 
   jump-complete : {a b : Base Path} {k : ℕ} {w : Value} → B⇒ Σ Π (h .frames) a (Value.Code k) → B⇒ Σ Π (h .frames) b w →
-      jump-to p Σ Π h a b ≡ becomes (getD (p .codes) k Code.finished) w Π h []
-  unfolding jump-to code-of M._>>=_
+      jump-to p Σ Π h a b ≡ becomes (getD (p .codes) k Code.finished) (first-of p k) w Π h []
+  unfolding jump-to code-number M._>>=_
   jump-complete c d = gives-bind _ (base-complete c) (gives-bind _ (base-complete d) refl)
 
-  assign-sound : (path : Path) (e : Expression Path) (v : Value) (h′ : Heap) (x : Effect) → E⇒ (constants p) Σ Π e h v h′ →
-      assign-to Σ Π rest path v h′ ≡ gives x → Gives (Instruction.assign path e) x
+  assign-sound : (path : Path) (e : Expression Path) (v : Value) (h′ : Heap) (x : Effect) → E⇒ (constants p) ν Σ Π e h v h′ →
+      assign-to Σ Π rest (following p ν) path v h′ ≡ gives x → Gives (Instruction.assign path e) x
   unfolding assign-to
   assign-sound (from-self []) e v h′ x d q = rw (← gives-inj q) (i-assign₂ d)
   assign-sound (from-self (n ∷ ns)) e v h′ x d q =
@@ -558,17 +557,17 @@ module _ (p : Program) (rest : Code Path) (Σ Π : Value) (h : Heap) where
       rw (← gives-inj t) (i-assign₃ d (put-sound (h′ .frames) v Π n ns r))
 
   ifeq-sound : (a b c : Base Path) (v : Value) (x : Effect) (t : Bool) → truth v ≡ t → B⇒ Σ Π (h .frames) a v →
-      (if t then becomes rest Σ Π h [] else jump-to p Σ Π h b c) ≡ gives x → Gives (Instruction.ifeq a b c) x
+      (if t then becomes rest (following p ν) Σ Π h [] else jump-to p Σ Π h b c) ≡ gives x → Gives (Instruction.ifeq a b c) x
   ifeq-sound a b c v x true e d q = rw (← gives-inj q) (i-ifeq₂ d (truth-true e))
   ifeq-sound a b c v x false e d q =
       let m = jump-sound b c x q in
       rw (← m .effect) (i-ifeq₁ (subst (λ (y : Value). B⇒ Σ Π (h .frames) a y) (truth-false v e) d) (m .code) (m .self))
 
-  perform-sound : (i : Instruction Path) (x : Effect) → perform p Σ Π h rest i ≡ gives x → Gives i x
+  pub perform-sound : (i : Instruction Path) (x : Effect) → perform p ν Σ Π h rest i ≡ gives x → Gives i x
   unfolding perform
   perform-sound (Instruction.assign path e) x q =
-      bind-gives (evaluate (constants p) Σ Π e h) _ q λ r s t.
-      assign-sound path e (r .value) (r .heap) x (evaluate-sound (constants p) Σ Π e h r s) t
+      bind-gives (evaluate (constants p) ν Σ Π e h) _ q λ r s t.
+      assign-sound path e (r .value) (r .heap) x (evaluate-sound (constants p) ν Σ Π e h r s) t
   perform-sound (Instruction.show a) x q =
       bind-gives (base-value Σ Π (h .frames) a) _ q λ v s t.
       rw (← gives-inj t) (i-show (base-sound Σ Π (h .frames) a s))
@@ -579,25 +578,25 @@ module _ (p : Program) (rest : Code Path) (Σ Π : Value) (h : Heap) where
       bind-gives (base-value Σ Π (h .frames) a) _ q λ v s t.
       ifeq-sound a b c v x (truth v) refl (base-sound Σ Π (h .frames) a s) t
 
-  ifeq-zero : (b c : Base Path) → (if truth zero-value then becomes rest Σ Π h [] else jump-to p Σ Π h b c) ≡ jump-to p Σ Π h b c
+  ifeq-zero : (b c : Base Path) → (if truth zero-value then becomes rest (following p ν) Σ Π h [] else jump-to p Σ Π h b c) ≡ jump-to p Σ Π h b c
   unfolding truth
   ifeq-zero b c = refl
 
-  perform-complete : {i : Instruction Path} {cs : Code Path} {Σ′ Π′ : Value} {h′ : Heap} {line : List ℕ} →
-      I⇒ p rest Σ Π h i cs Σ′ Π′ h′ line → perform p Σ Π h rest i ≡ becomes cs Σ′ Π′ h′ line
+  perform-complete : {i : Instruction Path} {cs : Code Path} {c′ : ℕ} {Σ′ Π′ : Value} {h′ : Heap} {line : List ℕ} →
+      I⇒ p ν rest Σ Π h i cs c′ Σ′ Π′ h′ line → perform p ν Σ Π h rest i ≡ becomes cs c′ Σ′ Π′ h′ line
   unfolding perform assign-to
   perform-complete (i-show d) = gives-bind _ (base-complete d) refl
   perform-complete (i-jump c d) = jump-complete c d
   perform-complete (i-ifeq₁ {b} {c} d e f) = gives-bind _ (base-complete d) (ifeq-zero b c ∙ jump-complete e f)
   perform-complete (i-ifeq₂ {v} d n) = gives-bind _ (base-complete d) (rw (true-of v n))
   perform-complete (i-assign₁ {v} {h′} d q) =
-      gives-bind _ (evaluate-complete (constants p) Σ Π d) (gives-bind _ (put-complete (h′ .frames) v q) refl)
-  perform-complete (i-assign₂ d) = gives-bind _ (evaluate-complete (constants p) Σ Π d) refl
+      gives-bind _ (evaluate-complete (constants p) ν Σ Π d) (gives-bind _ (put-complete (h′ .frames) v q) refl)
+  perform-complete (i-assign₂ d) = gives-bind _ (evaluate-complete (constants p) ν Σ Π d) refl
   perform-complete (i-assign₃ {v} {h′} d q) =
-      gives-bind _ (evaluate-complete (constants p) Σ Π d) (gives-bind _ (put-complete (h′ .frames) v q) refl)
-  perform-complete (i-assign₄ d) = gives-bind _ (evaluate-complete (constants p) Σ Π d) refl
+      gives-bind _ (evaluate-complete (constants p) ν Σ Π d) (gives-bind _ (put-complete (h′ .frames) v q) refl)
+  perform-complete (i-assign₄ d) = gives-bind _ (evaluate-complete (constants p) ν Σ Π d) refl
 
-  assign-ends : (path : Path) (v : Value) (h′ : Heap) {j : ℕ} → assign-to Σ Π rest path v h′ ≡ ends j →
+  assign-ends : (path : Path) (v : Value) (h′ : Heap) {j : ℕ} → assign-to Σ Π rest (following p ν) path v h′ ≡ ends j →
       (j ≡ 31) ⊎ PutMeets (h′ .frames) v (root Σ Π path) (names path) j
   unfolding assign-to root names
   assign-ends (from-self []) v h′ q = absurd (gives≢ends q)
@@ -607,16 +606,16 @@ module _ (p : Program) (rest : Code Path) (Σ Π : Value) (h : Heap) where
   assign-ends (from-program (n ∷ ns)) v h′ q =
       bind-ends (put (h′ .frames) Π n ns v) _ q (λ e. put-ends (h′ .frames) v Π n ns e) λ frames r t. absurd (gives≢ends t)
 
-  ifeq-ends : (b c : Base Path) (t : Bool) {j : ℕ} → (if t then becomes rest Σ Π h [] else jump-to p Σ Π h b c) ≡ ends j → j ≡ 31
+  ifeq-ends : (b c : Base Path) (t : Bool) {j : ℕ} → (if t then becomes rest (following p ν) Σ Π h [] else jump-to p Σ Π h b c) ≡ ends j → j ≡ 31
   ifeq-ends b c true q = absurd (gives≢ends q)
   ifeq-ends b c false q = jump-ends b c q
 
-  perform-ends : (i : Instruction Path) {j : ℕ} → perform p Σ Π h rest i ≡ ends j → (j ≡ 31) ⊎ Meets p Σ Π h i j
+  perform-ends : (i : Instruction Path) {j : ℕ} → perform p ν Σ Π h rest i ≡ ends j → (j ≡ 31) ⊎ Meets p ν Σ Π h i j
   unfolding perform
   perform-ends (Instruction.assign path e) q =
-      bind-ends (evaluate (constants p) Σ Π e h) _ q
-      (λ n. ⊎-map (λ i. i) in-expression (evaluate-ends (constants p) Σ Π e h n))
-      λ r s t. ⊎-map (λ i. i) (in-put (evaluate-sound (constants p) Σ Π e h r s)) (assign-ends path (r .value) (r .heap) t)
+      bind-ends (evaluate (constants p) ν Σ Π e h) _ q
+      (λ n. ⊎-map (λ i. i) in-expression (evaluate-ends (constants p) ν Σ Π e h n))
+      λ r s t. ⊎-map (λ i. i) (in-put (evaluate-sound (constants p) ν Σ Π e h r s)) (assign-ends path (r .value) (r .heap) t)
   perform-ends (Instruction.show a) q =
       bind-ends (base-value Σ Π (h .frames) a) _ q (λ n. inl (base-ends Σ Π (h .frames) a n)) λ v s t. absurd (gives≢ends t)
   perform-ends (Instruction.jump a b) q = inl (jump-ends a b q)
@@ -624,17 +623,17 @@ module _ (p : Program) (rest : Code Path) (Σ Π : Value) (h : Heap) where
       bind-ends (base-value Σ Π (h .frames) a) _ q (λ n. inl (base-ends Σ Π (h .frames) a n)) λ v s t. inl (ifeq-ends b c (truth v) t)
 
   assign-meets : (path : Path) (v : Value) (h′ : Heap) {j : ℕ} → PutMeets (h′ .frames) v (root Σ Π path) (names path) j →
-      assign-to Σ Π rest path v h′ ≡ ends j
+      assign-to Σ Π rest (following p ν) path v h′ ≡ ends j
   unfolding assign-to root names
   assign-meets (from-self []) v h′ m = absurd (some-names m refl)
   assign-meets (from-self (n ∷ ns)) v h′ m = ends-bind _ (put-meets (h′ .frames) v m)
   assign-meets (from-program []) v h′ m = absurd (some-names m refl)
   assign-meets (from-program (n ∷ ns)) v h′ m = ends-bind _ (put-meets (h′ .frames) v m)
 
-  perform-meets : {i : Instruction Path} {j : ℕ} → Meets p Σ Π h i j → perform p Σ Π h rest i ≡ ends j
+  perform-meets : {i : Instruction Path} {j : ℕ} → Meets p ν Σ Π h i j → perform p ν Σ Π h rest i ≡ ends j
   unfolding perform
-  perform-meets (in-expression m) = ends-bind _ (evaluate-meets (constants p) Σ Π m)
-  perform-meets (in-put {path} {v} {h′} d m) = gives-bind _ (evaluate-complete (constants p) Σ Π d) (assign-meets path v h′ m)
+  perform-meets (in-expression m) = ends-bind _ (evaluate-meets (constants p) ν Σ Π m)
+  perform-meets (in-put {path} {v} {h′} d m) = gives-bind _ (evaluate-complete (constants p) ν Σ Π d) (assign-meets path v h′ m)
 
 -- ---- Demand 2, for one instruction
 
@@ -649,11 +648,11 @@ operation-number (over-out n t) = le-by-compare 32 33 tt
 operation-number (too-long l) = le-by-compare 32 34 tt
 
 mutual
-  expression-number : {K : Constants} {Σ Π : Value} {x : Expression Path} {h : Heap} {j : ℕ} → ExpressionMeets K Σ Π x h j → 31 < j
+  expression-number : {K : Constants} {ν : ℕ} {Σ Π : Value} {x : Expression Path} {h : Heap} {j : ℕ} → ExpressionMeets K ν Σ Π x h j → 31 < j
   expression-number (in-operation c d m) = operation-number m
   expression-number (in-a-frame m) = slots-number m
 
-  slots-number : {K : Constants} {Σ Π : Value} {ss : Slots Path} {h : Heap} {j : ℕ} → SlotsMeet K Σ Π ss h j → 31 < j
+  slots-number : {K : Constants} {ν : ℕ} {Σ Π : Value} {ss : Slots Path} {h : Heap} {j : ℕ} → SlotsMeet K ν Σ Π ss h j → 31 < j
   slots-number (in-first m) = expression-number m
   slots-number (in-later d m) = slots-number m
 
@@ -662,66 +661,66 @@ unfolding IsLe
 put-number (full p q l) = le-by-compare 32 35 tt
 put-number (further p q d) = put-number d
 
-meets-number : {p : Program} {Σ Π : Value} {h : Heap} {i : Instruction Path} {j : ℕ} → Meets p Σ Π h i j → 31 < j
+meets-number : {p : Program} {ν : ℕ} {Σ Π : Value} {h : Heap} {i : Instruction Path} {j : ℕ} → Meets p ν Σ Π h i j → 31 < j
 meets-number (in-expression m) = expression-number m
 meets-number (in-put d m) = put-number m
 
-module _ (p : Program) (rest : Code Path) (Σ Π : Value) (h : Heap) (i : Instruction Path) where
-  not-31 : {j : ℕ} → 31 < j → (j ≡ 31) ⊎ Meets p Σ Π h i j → Meets p Σ Π h i j
+module _ (p : Program) (ν : ℕ) (rest : Code Path) (Σ Π : Value) (h : Heap) (i : Instruction Path) where
+  not-31 : {j : ℕ} → 31 < j → (j ≡ 31) ⊎ Meets p ν Σ Π h i j → Meets p ν Σ Π h i j
   not-31 l (inl e) = absurd (omega arith)
   not-31 l (inr m) = m
 
   -- no rule and none of 32 to 35
   abbrev Nothing : Type 0
-  Nothing = ((x : Effect) → ¬ I⇒ p rest Σ Π h i (x .remaining) (x .self) (x .program) (x .heap) (x .line)) × ((j : ℕ) → ¬ Meets p Σ Π h i j)
+  Nothing = ((x : Effect) → ¬ I⇒ p ν rest Σ Π h i (x .remaining) (x .next) (x .self) (x .program) (x .heap) (x .line)) × ((j : ℕ) → ¬ Meets p ν Σ Π h i j)
 
-  only-31 : (r : Result Effect) → perform p Σ Π h rest i ≡ r → Nothing → perform p Σ Π h rest i ≡ ends 31
-  only-31 (gives x) e n = absurd (n .0 x (perform-sound p rest Σ Π h i x e))
-  only-31 (ends j) e n = case (perform-ends p rest Σ Π h i e)
+  only-31 : (r : Result Effect) → perform p ν Σ Π h rest i ≡ r → Nothing → perform p ν Σ Π h rest i ≡ ends 31
+  only-31 (gives x) e n = absurd (n .0 x (perform-sound p ν rest Σ Π h i x e))
+  only-31 (ends j) e n = case (perform-ends p ν rest Σ Π h i e)
     where
-      case : (j ≡ 31) ⊎ Meets p Σ Π h i j → perform p Σ Π h rest i ≡ ends 31
+      case : (j ≡ 31) ⊎ Meets p ν Σ Π h i j → perform p ν Σ Π h rest i ≡ ends 31
       case (inl q) = e ∙ ap ends q
       case (inr m) = absurd (n .1 j m)
 
-  nothing-31 : perform p Σ Π h rest i ≡ ends 31 → Nothing
+  nothing-31 : perform p ν Σ Π h rest i ≡ ends 31 → Nothing
   nothing-31 e = (
-    λ x d. ends≢gives (sym e ∙ perform-complete p rest Σ Π h d),
-    λ j m. let l : 31 < j = meets-number m in let q : 31 ≡ j = ends-inj (sym e ∙ perform-meets p rest Σ Π h m) in omega arith,
+    λ x d. ends≢gives (sym e ∙ perform-complete p ν rest Σ Π h d),
+    λ j m. let l : 31 < j = meets-number m in let q : 31 ≡ j = ends-inj (sym e ∙ perform-meets p ν rest Σ Π h m) in omega arith,
   )
 
 -- no rule ends with 0
-pub rule-number : (p : Program) (rest : Code Path) (Σ Π : Value) (h : Heap) (i : Instruction Path) {e : ℕ} → perform p Σ Π h rest i ≡ ends e → 31 ≤ e
-rule-number p rest Σ Π h i {e} q = go (perform-ends p rest Σ Π h i q)
+pub rule-number : (p : Program) (ν : ℕ) (rest : Code Path) (Σ Π : Value) (h : Heap) (i : Instruction Path) {e : ℕ} → perform p ν Σ Π h rest i ≡ ends e → 31 ≤ e
+rule-number p ν rest Σ Π h i {e} q = go (perform-ends p ν rest Σ Π h i q)
   where
-    go : (e ≡ 31) ⊎ Meets p Σ Π h i e → 31 ≤ e
+    go : (e ≡ 31) ⊎ Meets p ν Σ Π h i e → 31 ≤ e
     go (inl z) = omega arith
     go (inr m) = let l : 31 < e = meets-number m in omega arith
 
 -- with room the step is the rule
 step-performs : (p : Program) (F T : ℕ) (s : State) (i : Instruction Path) (rest : Code Path) → Ready F T s i rest →
-    step p F T s i rest ≡ perform p (s .self) (s .program) (s .heap) rest i
+    step p F T s i rest ≡ perform p (s .next) (s .self) (s .program) (s .heap) rest i
 unfolding step
 step-performs p F T s i rest r = rw (r .room, step)
 
 pub step-judged : StepJudged
 step-judged = record {
   goes-on = λ p F T s i rest r x. (
-    λ e. perform-sound p rest (s .self) (s .program) (s .heap) i x (sym (step-performs p F T s i rest r) ∙ e),
-    λ d. step-performs p F T s i rest r ∙ perform-complete p rest (s .self) (s .program) (s .heap) d,
+    λ e. perform-sound p (s .next) rest (s .self) (s .program) (s .heap) i x (sym (step-performs p F T s i rest r) ∙ e),
+    λ d. step-performs p F T s i rest r ∙ perform-complete p (s .next) rest (s .self) (s .program) (s .heap) d,
   );
   first-met = λ p F T s i rest r e l. (
-    λ q. not-31 p rest (s .self) (s .program) (s .heap) i l
-        (perform-ends p rest (s .self) (s .program) (s .heap) i (sym (step-performs p F T s i rest r) ∙ q)),
-    λ m. step-performs p F T s i rest r ∙ perform-meets p rest (s .self) (s .program) (s .heap) m,
+    λ q. not-31 p (s .next) rest (s .self) (s .program) (s .heap) i l
+        (perform-ends p (s .next) rest (s .self) (s .program) (s .heap) i (sym (step-performs p F T s i rest r) ∙ q)),
+    λ m. step-performs p F T s i rest r ∙ perform-meets p (s .next) rest (s .self) (s .program) (s .heap) m,
   );
   no-rule = λ p F T s i rest r. (
-    λ e. nothing-31 p rest (s .self) (s .program) (s .heap) i (sym (step-performs p F T s i rest r) ∙ e),
-    λ n. step-performs p F T s i rest r ∙ only-31 p rest (s .self) (s .program) (s .heap) i _ refl n,
+    λ e. nothing-31 p (s .next) rest (s .self) (s .program) (s .heap) i (sym (step-performs p F T s i rest r) ∙ e),
+    λ n. step-performs p F T s i rest r ∙ only-31 p (s .next) rest (s .self) (s .program) (s .heap) i _ refl n,
   );
   one-effect = λ p s i rest x y c d.
-      gives-inj (sym (perform-complete p rest (s .self) (s .program) (s .heap) c) ∙ perform-complete p rest (s .self) (s .program) (s .heap) d);
+      gives-inj (sym (perform-complete p (s .next) rest (s .self) (s .program) (s .heap) c) ∙ perform-complete p (s .next) rest (s .self) (s .program) (s .heap) d);
   one-number = λ p s i e f c d.
-      ends-inj (sym (perform-meets p Code.finished (s .self) (s .program) (s .heap) c) ∙ perform-meets p Code.finished (s .self) (s .program) (s .heap) d);
+      ends-inj (sym (perform-meets p (s .next) Code.finished (s .self) (s .program) (s .heap) c) ∙ perform-meets p (s .next) Code.finished (s .self) (s .program) (s .heap) d);
   not-both = λ p s i rest x e c d.
-      ends≢gives (sym (perform-meets p rest (s .self) (s .program) (s .heap) d) ∙ perform-complete p rest (s .self) (s .program) (s .heap) c);
+      ends≢gives (sym (perform-meets p (s .next) rest (s .self) (s .program) (s .heap) d) ∙ perform-complete p (s .next) rest (s .self) (s .program) (s .heap) c);
 }

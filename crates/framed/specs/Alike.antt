@@ -1,5 +1,5 @@
 -- Document 01, "The endless machine", last paragraph: when two states are alike, under a one-to-one renaming of the reachable frames
--- (the same slot names, values alike) and made texts (the same bytes). Assumes nothing.
+-- (the same slot names, values alike; document 02, A5: the same maker) and made texts (the same bytes). Assumes nothing.
 use mathlib.Core.Path.{_≡_}
 use mathlib.Core.List.{map}
 use mathlib.Core.Option.{Option, none, some}
@@ -43,6 +43,7 @@ pub record Alike (s t : State) : Type 0 where
       renaming .text j ≡ renaming .text k → j ≡ k
   pub same-end : s .end-mark ≡ t .end-mark
   pub same-remaining : s .remaining ≡ t .remaining
+  pub same-next : s .next ≡ t .next
   pub self-alike : renamed renaming (s .self) ≡ t .self
   pub program-alike : renamed renaming (s .program) ≡ t .program
   pub frames-alike : (n : ℕ) → InReach s (Value.Frame n) →

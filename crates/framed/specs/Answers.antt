@@ -10,6 +10,7 @@ use Rattle.framed.specs.declared.RunAnswer.{RunAnswer}
 use Rattle.framed.specs.declared.CollectAnswer.{CollectAnswer}
 use Rattle.framed.specs.declared.LookAnswer.{LookAnswer}
 use Rattle.framed.specs.declared.WriteAnswer.{WriteAnswer}
+use Rattle.framed.specs.declared.MakersAnswer.{MakersAnswer}
 
 -- load: 0 is loaded, 1 to 12 are the table's
 abbrev pub load-number : LoadAnswer → ℕ
@@ -59,17 +60,18 @@ abbrev pub collect-report : CollectAnswer → Report
 collect-report (CollectAnswer.Collected t) = collected (t .frames) (t .texts)
 collect-report CollectAnswer.NotWellFormed = refused 20
 
--- what look gives: the kind, for an integer with the number; or the number of a refusal
+-- what look gives: the kind, for an integer with the number, for a frame with its maker; or the number of a refusal
 pub data Look : Type 0 where
   integer : ℤ → Look
-  text code frame : Look
+  text code : Look
+  frame : (maker : ℕ) → Look
   refused : ℕ → Look
 
 abbrev pub look-word : LookAnswer → Look
 look-word (LookAnswer.Integer z) = Look.integer z
 look-word LookAnswer.Text = Look.text
 look-word LookAnswer.Code = Look.code
-look-word LookAnswer.Frame = Look.frame
+look-word (LookAnswer.Frame n) = Look.frame n
 look-word LookAnswer.NotWellFormed = Look.refused 20
 look-word LookAnswer.NotPath = Look.refused 21
 look-word LookAnswer.Undefined = Look.refused 22
@@ -83,3 +85,8 @@ abbrev pub write-word : WriteAnswer → Wrote
 write-word (WriteAnswer.Written n) = wrote n
 write-word WriteAnswer.NotWellFormed = Wrote.refused 20
 write-word WriteAnswer.ShortBuffer = Wrote.refused 23
+
+-- makers (document 02, A5): 0 is counted
+abbrev pub makers-number : MakersAnswer → ℕ
+makers-number MakersAnswer.Counted = 0
+makers-number MakersAnswer.NotWellFormed = 20

@@ -1,12 +1,13 @@
--- Document 01, "The calls" and the last paragraph of "The endless machine", on the unbounded machine: run, collect and look; document 02, A1: write;
--- and the list of calls that demand 3 speaks of. Assumes nothing.
+-- Document 01, "The calls" and the last paragraph of "The endless machine", on the unbounded machine: run, collect and look; document 02, A1: write,
+-- A5: makers; and the list of calls that demand 3 speaks of. Assumes nothing.
 use mathlib.Core.Bool.{Bool, true, false}
 use mathlib.Core.List.{List, [], _∷_, _++_}
 use mathlib.Core.Option.{Option, none, some}
 use Prim.Native.Nat.{ℕ, zero, suc, _-_}
-use lib.ListN.{length, drop}
-use lib.Dec.{leb}
+use lib.ListN.{length, drop, getD}
+use lib.Dec.{eqb, leb}
 use Rattle.framed.specs.declared.Value.{Value}
+use Rattle.framed.specs.Common.{count}
 use Rattle.framed.specs.Bytes.{class}
 use Rattle.framed.specs.Tokens.{Token, tokens}
 use Rattle.framed.specs.Symbols.{numbered}
@@ -14,7 +15,7 @@ use Rattle.framed.specs.Tree.{Written, Instruction, Code, _then_}
 use Rattle.framed.specs.Parse.{Parsed, fails, parsed, a-path}
 use Rattle.framed.specs.Paths.{Path}
 use Rattle.framed.specs.Program.{Program}
-use Rattle.framed.specs.Values.{text-bytes}
+use Rattle.framed.specs.Values.{Frame, text-bytes, new-frame}
 use Rattle.framed.specs.Fetch.{fetch}
 use Rattle.framed.specs.Reach.{roots, reached-frames, reached-texts}
 use Rattle.framed.specs.Machine.{State, Effect, gives, ends, step, after-step, marked, start}
@@ -103,6 +104,16 @@ frame-total s = length (reached-frames (s .heap .frames) (roots (s .self) (s .pr
 unfoldable pub text-total : State → ℕ
 text-total s = length (reached-texts (s .heap .frames) (roots (s .self) (s .program)))
 
+-- ---- Makers (document 02, A5): how many of the reachable frames each instruction made
+
+-- the maker of frame n
+unfoldable pub maker-in : List Frame → ℕ → ℕ
+maker-in frames n = getD frames n (new-frame 0 []) .maker
+
+-- the reachable frames whose maker is n
+unfoldable pub made-by : State → ℕ → ℕ
+made-by s n = count (λ f. eqb (maker-in (s .heap .frames) f) n) (reached-frames (s .heap .frames) (roots (s .self) (s .program)))
+
 -- ---- Look
 
 -- A path text: `self` or one `^` (the program frame) with names, and nothing behind it. A name that the program lacks has the
@@ -123,18 +134,18 @@ unfoldable pub look-from : State → Written → Option Value
 look-from s (Written.self ns) = fetch (s .heap .frames) (s .self) ns
 look-from s (Written.up k ns) = fetch (s .heap .frames) (s .program) ns
 
-unfoldable pub kind : Value → Look
-kind (Value.Int z) = Look.integer z
-kind (Value.Text t) = Look.text
-kind (Value.Code k) = Look.code
-kind (Value.Frame n) = Look.frame
+unfoldable pub kind : List Frame → Value → Look
+kind frames (Value.Int z) = Look.integer z
+kind frames (Value.Text t) = Look.text
+kind frames (Value.Code k) = Look.code
+kind frames (Value.Frame n) = Look.frame (maker-in frames n)
 
 -- 21 where the text is not such a path, 22 where Fetch is undefined
 unfoldable pub look : Program → State → List ℕ → Look
 look p s text =
     elim (read-path p (tokens class text)) [
       | none ↦ Look.refused 21
-      | some w ↦ elim (look-from s w) [ none ↦ Look.refused 22 | some v ↦ kind v ]
+      | some w ↦ elim (look-from s w) [ none ↦ Look.refused 22 | some v ↦ kind (s .heap .frames) v ]
     ]
 
 -- its companion: the bytes of a text, for another kind or a refusal none
@@ -165,7 +176,7 @@ LookFinds s w v = Fetch⇒ (s .heap .frames) (look-root s w) (look-names w) v
 
 -- what look answers for the path w, and its companion
 pub data LooksAs (s : State) (w : Written) : Look → Type 0 where
-  found : {v : Value} → LookFinds s w v → LooksAs s w (kind v)
+  found : {v : Value} → LookFinds s w v → LooksAs s w (kind (s .heap .frames) v)
   undefined : ((v : Value) → ¬ LookFinds s w v) → LooksAs s w (Look.refused 22)
 
 pub data LooksTextAs (p : Program) (s : State) (w : Written) : List ℕ → Type 0 where
@@ -205,5 +216,5 @@ calls p F T (collect-call ∷ cs) u =
     first-report (Report.collected (frame-total (u .state)) (text-total (u .state))) (calls p F T cs u)
 
 unfoldable pub Calls : Type 0
-unfolding at-start advanced ended attempted position-in position one-more run frame-total text-total look-path read-path look-from kind look text-in look-text look-root look-names write buffer-after first-report calls
+unfolding at-start advanced ended attempted position-in position one-more run frame-total text-total maker-in made-by look-path read-path look-from kind look text-in look-text look-root look-names write buffer-after first-report calls
 Calls = ℕ

@@ -7,7 +7,7 @@ use mathlib.Core.Bool.{true}
 use mathlib.Core.List.{List, [], _∷_, _++_, List·Memᴰ}
 use mathlib.Core.Option.{some}
 use Prim.Native.Nat.{ℕ, suc, _+_, _≤_, _<_}
-use lib.ListN.{length, take, drop}
+use lib.ListN.{length, take, drop, getD}
 use Rattle.framed.specs.declared.Value.{Value}
 use Rattle.framed.specs.declared.Text.{Text}
 use Rattle.framed.specs.declared.LoadAnswer.{LoadAnswer}
@@ -16,6 +16,7 @@ use Rattle.framed.specs.declared.RunAnswer.{RunAnswer}
 use Rattle.framed.specs.declared.CollectAnswer.{CollectAnswer}
 use Rattle.framed.specs.declared.LookAnswer.{LookAnswer}
 use Rattle.framed.specs.declared.WriteAnswer.{WriteAnswer}
+use Rattle.framed.specs.declared.MakersAnswer.{MakersAnswer}
 use Rattle.framed.specs.Bytes.{class}
 use Rattle.framed.specs.Tokens.{tokens}
 use Rattle.framed.specs.Tree.{Written, Instruction, Code, _then_}
@@ -26,7 +27,7 @@ use Rattle.framed.specs.Program.{Program, program}
 use Rattle.framed.specs.Machine.{State, Effect, ends, Ready, step, after-step, start, right-side, frame-literals}
 use Rattle.framed.specs.Judgments.{Rule, FirstMet}
 use Rattle.framed.specs.Answers.{load-number, Stopped, Report, run-report, collect-report, look-word, Look, write-word}
-use Rattle.framed.specs.Calls.{Unbounded, at-start, Call, run-call, collect-call, Session, calls, run, frame-total, text-total, read-path, look, look-text, LooksAs, LooksTextAs, write, buffer-after}
+use Rattle.framed.specs.Calls.{Unbounded, at-start, Call, run-call, collect-call, Session, calls, run, frame-total, text-total, made-by, read-path, look, look-text, LooksAs, LooksTextAs, write, buffer-after}
 use Rattle.framed.specs.Alike.{Alike, InReach}
 
 -- the four memories
@@ -58,6 +59,11 @@ pub record Writing : Type 0 where
   pub answer : WriteAnswer
   pub buffer : List ℕ
 
+-- makers (document 02, A5) only reads them, and is lent 513 counts
+pub record Counting : Type 0 where
+  pub answer : MakersAnswer
+  pub counts : List ℕ
+
 pub record LentMachine : Type 1 where
   -- document 01: the memories are whole
   pub WellFormed : Memories → Type 0
@@ -67,6 +73,7 @@ pub record LentMachine : Type 1 where
   pub look : Memories → (path : List ℕ) → LookAnswer
   pub look-text : Memories → (path : List ℕ) → List ℕ
   pub write : Memories → (buffer : List ℕ) → Writing
+  pub makers : Memories → (counts : List ℕ) → Counting
   -- the layout: what well-formed memories hold
   pub program-in : Memories → Program
   pub F-in : Memories → ℕ
@@ -126,6 +133,8 @@ module _ (M : LentMachine) where
     pub look-refused : (m : Memories) (path : List ℕ) → ¬ M .WellFormed m → (M .look m path ≡ LookAnswer.NotWellFormed) × (M .look-text m path ≡ [])
     pub write-refused : (m : Memories) (buffer : List ℕ) → ¬ M .WellFormed m →
         M .write m buffer ≡ record { answer = WriteAnswer.NotWellFormed; buffer = buffer }
+    pub makers-refused : (m : Memories) (counts : List ℕ) → ¬ M .WellFormed m →
+        M .makers m counts ≡ record { answer = MakersAnswer.NotWellFormed; counts = counts }
     -- a buffer that is too short stays as it was
     pub write-short : (m : Memories) (buffer : List ℕ) → M .write m buffer .answer ≡ WriteAnswer.ShortBuffer → M .write m buffer .buffer ≡ buffer
     -- no other run or collect is refused
@@ -204,6 +213,13 @@ module _ (M : LentMachine) where
         (look-word (M .look m path) ≡ l) ↔ LooksAs (M .state-in m) w l
     pub looks-text-fetch : (m : Memories) (path : List ℕ) (w : Written) (bs : List ℕ) → M .WellFormed m → read-path (M .program-in m) (tokens class path) ≡ some w →
         (M .look-text m path ≡ bs) ↔ LooksTextAs (M .program-in m) (M .state-in m) w bs
+    -- makers gives for each instruction the number of the reachable frames that it made, and first of those made at loading
+    pub counts-makers : (m : Memories) (counts : List ℕ) → M .WellFormed m → length counts ≡ 513 →
+        (M .makers m counts .answer ≡ MakersAnswer.Counted)
+        × (length (M .makers m counts .counts) ≡ 513)
+        × ((n : ℕ) → n < 513 → getD (M .makers m counts .counts) n 0 ≡ made-by (M .state-in m) n)
+    -- which are all of them: no reachable frame has another maker
+    pub makers-there : (m : Memories) (n : ℕ) → M .WellFormed m → length (M .program-in m .instructions) < n → made-by (M .state-in m) n ≡ 0
     -- write gives the text of the program that the memories hold, whether load made them or not; 23 where the buffer is shorter
     pub writes : (m : Memories) (buffer : List ℕ) → M .WellFormed m →
         (write-word (M .write m buffer .answer) ≡ write (M .program-in m) (length buffer))
@@ -238,6 +254,8 @@ module _ (M : LentMachine) where
     pub bytes : bytes-in rs ≡ s .machine .shown
     -- end mark, remaining instructions, self and program
     pub states : Alike (s .machine .state) (M .state-in m)
+    -- each instruction made as many of the frames reached
+    pub makers : (n : ℕ) → made-by (s .machine .state) n ≡ made-by (M .state-in m) n
     -- an end stands exactly when a run tried the next instruction and it gives that end
     pub ends-stand : (e : ℕ) → 31 ≤ e → e ≤ 37 →
         (M .state-in m .end-mark ≡ e) ↔ ((s .machine .tried ≡ true) × NextEnds p F T (s .machine .state) e)

@@ -1,8 +1,8 @@
 -- Document 01, "A printed run and the proved examples": what each example says, from the bytes of a source to the reports.
 -- `ProvedExamples` is the conjunction that the document asks for; `PrintedRun` is the example of `framerun`; `WrittenExamples` are texts of document 02, A1,
--- `JoinedExamples` runs of its A3 and `EqualExamples` of its A4. Assumes nothing.
+-- `JoinedExamples` runs of its A3, `EqualExamples` of its A4 and `MakersExamples` of its A5. Assumes nothing.
 use mathlib.Core.Path.{_≡_}
-use mathlib.Core.List.{List, [], _∷_, _++_}
+use mathlib.Core.List.{List, [], _∷_, _++_, map}
 use mathlib.Core.Option.{Option, none, some}
 use Prim.Native.Nat.{ℕ, zero, suc}
 use Prim.Native.String.{String}
@@ -12,9 +12,10 @@ use Rattle.framed.specs.Tree.{Base, Instruction, Code, _then_}
 use Rattle.framed.specs.Paths.{Path, from-program}
 use Rattle.framed.specs.Meaning.{refusal}
 use Rattle.framed.specs.Program.{Program, program}
+use Rattle.framed.specs.Machine.{State}
 use Rattle.framed.specs.Writer.{text}
-use Rattle.framed.specs.Answers.{Stopped, Report}
-use Rattle.framed.specs.Calls.{Call, run-call, calls, at-start}
+use Rattle.framed.specs.Answers.{Stopped, Report, Look}
+use Rattle.framed.specs.Calls.{Call, run-call, calls, at-start, look, made-by}
 use Rattle.framed.specs.Framerun.{right-memories, framerun, Framerun}
 
 -- ---- What the examples ask
@@ -161,7 +162,37 @@ EqualExamples =
     -- a value of another kind is no code
     × compares "code {}" "0" "0\n"
 
+-- ---- Document 02, A5: the maker of a frame
+
+-- the state after a run of Main.start, with these instructions
+unfoldable pub ran-of : Program → State
+ran-of p = calls p 256 256 (run-call 100 256 ∷ []) (at-start p) .machine .state
+
+-- what the paths lead to then, and how many frames each of these makers made
+unfoldable pub looks-of : Option Program → List String → List Look
+looks-of none paths = []
+looks-of (some p) paths = map (λ path. look p (ran-of p) (bytes path)) paths
+
+unfoldable pub makers-of : Option Program → List ℕ → List ℕ
+makers-of none ns = []
+makers-of (some p) ns = map (made-by (ran-of p)) ns
+
+-- the second instruction stands in a code of the first: it is counted before the third
+abbrev pub nested-source : List ℕ
+nested-source = main "self.c := code { self.z := frame: [ in := frame: [] ]; }; self.x := frame: []; jump self.c self;"
+
+-- Put into the frame that the first instruction made, and that it becomes self and program, leaves its maker
+abbrev pub moved-source : List ℕ
+moved-source = main "self.x := frame: []; self.x.y := 1; self.x.z := self; self := self.x; ^.^ := self;"
+
+unfoldable pub MakersExamples : Type 0
+MakersExamples =
+    (looks-of (program nested-source) ("self.x" ∷ "self.z" ∷ "self.z.in" ∷ "self" ∷ "^" ∷ "^.Main" ∷ [])
+    ≡ Look.frame 3 ∷ Look.frame 2 ∷ Look.frame 2 ∷ Look.frame 0 ∷ Look.frame 0 ∷ Look.frame 0 ∷ [])
+    × (makers-of (program nested-source) (0 ∷ 1 ∷ 2 ∷ 3 ∷ 4 ∷ []) ≡ 3 ∷ 0 ∷ 2 ∷ 1 ∷ 0 ∷ [])
+    × (looks-of (program moved-source) ("self" ∷ "^" ∷ "self.z" ∷ []) ≡ Look.frame 1 ∷ Look.frame 1 ∷ Look.frame 0 ∷ [])
+
 -- to compute with these, a proof unfolds `Examples`
 unfoldable pub Examples : Type 0
-unfolding load-gives reports-of reports main runs codes-of name-of text-of Framerun
+unfolding load-gives reports-of reports main runs codes-of name-of text-of ran-of looks-of makers-of Framerun
 Examples = ℕ

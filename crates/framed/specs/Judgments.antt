@@ -1,7 +1,7 @@
 -- Document 001 (the Framed thesis), section 4: its judgments B, Fetch, E, Put, I, C and that of a program as relations, one constructor for each rule,
 -- with document 01's corrections and limits: Put₂ reads getF, I-Assign₃ hands Put the newer heap, integers are in range, a made text has at most
 -- 64 bytes and a frame at most 16 slots; and with document 02's: `#` takes values of any kind, each as `show` writes it (A3); two codes are equal where
--- their instruction lists agree (A4).
+-- their instruction lists agree (A4). A frame is of the instruction that makes it (A5), so that the judgments have the number of the instruction.
 -- I, C and that of a program also say what is shown.
 -- `Meets` says which of 32 to 35 is met first in the rule's order. Demand 2: `Machine.perform` gives what `I⇒` says, ends with 32 to 35 where
 -- `Meets` says so, and else with 31. Assumes nothing.
@@ -25,7 +25,7 @@ use Rattle.framed.specs.Program.{Program}
 use Rattle.framed.specs.Values.{Slot, Frame, Heap, new-frame, with-slots, empty-heap, shown, join-bytes, truth, bit}
 use Rattle.framed.specs.Equality.{Constants, constants, equal-values}
 use Rattle.framed.specs.Fetch.{in-frame, frame-of}
-use Rattle.framed.specs.Machine.{set-slot, with-frame, with-frames, State, Effect}
+use Rattle.framed.specs.Machine.{set-slot, with-frame, with-frames, following, first-of, State, Effect}
 
 abbrev pub zero-value : Value
 zero-value = Value.Int (pos 0)
@@ -62,27 +62,27 @@ pub data Operates (c : Constants) (h : Heap) : Operator → Value → Value → 
   o-and : {v w : Value} → Operates c h Operator.and v w (bit (truth v && truth w)) h
   o-or : {v w : Value} → Operates c h Operator.or v w (bit (truth v || truth w)) h
 
--- ---- E
+-- ---- E, in instruction n
 
 mutual
-  pub data E⇒ (c : Constants) (Σ Π : Value) : Expression Path → Heap → Value → Heap → Type 0 where
-    e-base : {b : Base Path} {h : Heap} {v : Value} → B⇒ Σ Π (h .frames) b v → E⇒ c Σ Π (Expression.base b) h v h
+  pub data E⇒ (c : Constants) (n : ℕ) (Σ Π : Value) : Expression Path → Heap → Value → Heap → Type 0 where
+    e-base : {b : Base Path} {h : Heap} {v : Value} → B⇒ Σ Π (h .frames) b v → E⇒ c n Σ Π (Expression.base b) h v h
     e-op : {o : Operator} {a b : Base Path} {h h′ : Heap} {v w u : Value} →
         B⇒ Σ Π (h .frames) a v → B⇒ Σ Π (h .frames) b w → Operates c h o v w u h′ →
-        E⇒ c Σ Π (Expression.operation o a b) h u h′
-    e-not₁ : {b : Base Path} {h : Heap} → B⇒ Σ Π (h .frames) b zero-value → E⇒ c Σ Π (Expression.not b) h (Value.Int (pos 1)) h
+        E⇒ c n Σ Π (Expression.operation o a b) h u h′
+    e-not₁ : {b : Base Path} {h : Heap} → B⇒ Σ Π (h .frames) b zero-value → E⇒ c n Σ Π (Expression.not b) h (Value.Int (pos 1)) h
     e-not₂ : {b : Base Path} {h : Heap} {v : Value} →
-        B⇒ Σ Π (h .frames) b v → v ≢ zero-value → E⇒ c Σ Π (Expression.not b) h (Value.Int (pos 0)) h
+        B⇒ Σ Π (h .frames) b v → v ≢ zero-value → E⇒ c n Σ Π (Expression.not b) h (Value.Int (pos 0)) h
     e-frame : {ss : Slots Path} {h h₀ h₁ : Heap} {x : ℕ} {f : List Slot} →
-        x ≡ length (h .frames) → Slots⇒ c Σ Π ss (with-frame h) f h₀ → h₁ ≡ with-frames (set (h₀ .frames) x (new-frame f)) h₀ →
-        E⇒ c Σ Π (Expression.frame ss) h (Value.Frame x) h₁
+        x ≡ length (h .frames) → Slots⇒ c n Σ Π ss (with-frame n h) f h₀ → h₁ ≡ with-frames (set (h₀ .frames) x (new-frame n f)) h₀ →
+        E⇒ c n Σ Π (Expression.frame ss) h (Value.Frame x) h₁
 
   -- the slots x₁ := e₁, …, xₙ := eₙ, each from the heap that the one before left
-  pub data Slots⇒ (c : Constants) (Σ Π : Value) : Slots Path → Heap → List Slot → Heap → Type 0 where
-    s-none : {h : Heap} → Slots⇒ c Σ Π Slots.no-slots h [] h
+  pub data Slots⇒ (c : Constants) (n : ℕ) (Σ Π : Value) : Slots Path → Heap → List Slot → Heap → Type 0 where
+    s-none : {h : Heap} → Slots⇒ c n Σ Π Slots.no-slots h [] h
     s-slot : {x : ℕ} {e : Expression Path} {ss : Slots Path} {h h′ h″ : Heap} {v : Value} {s : Slot} {f : List Slot} →
-        E⇒ c Σ Π e h v h′ → s ≡ record { name = x; value = v } → Slots⇒ c Σ Π ss h′ f h″ →
-        Slots⇒ c Σ Π (Slots.slot x e ss) h (s ∷ f) h″
+        E⇒ c n Σ Π e h v h′ → s ≡ record { name = x; value = v } → Slots⇒ c n Σ Π ss h′ f h″ →
+        Slots⇒ c n Σ Π (Slots.slot x e ss) h (s ∷ f) h″
 
 -- ---- Put: set or add the last slot, of which a frame has at most 16
 
@@ -97,38 +97,39 @@ pub data Put⇒ (frames : List Frame) (w : Value) : Value → List ℕ → List 
       frame-of frames v ≡ some f → in-frame f x ≡ some u → Put⇒ frames w u (y ∷ xs) frames′ →
       Put⇒ frames w v (x ∷ y ∷ xs) frames′
 
--- ---- I: the instruction, with cs behind it, gives cs′, Σ′, Π′, the heap after it and the line that is shown
+-- ---- I: instruction n, with cs behind it, gives cs′, the number of its first, Σ′, Π′, the heap after it and the line that is shown
 
-pub data I⇒ (p : Program) (cs : Code Path) (Σ Π : Value) (h : Heap) : Instruction Path → Code Path → Value → Value → Heap → List ℕ → Type 0 where
+pub data I⇒ (p : Program) (n : ℕ) (cs : Code Path) (Σ Π : Value) (h : Heap) : Instruction Path → Code Path → ℕ → Value → Value → Heap → List ℕ → Type 0 where
   i-show : {b : Base Path} {v : Value} →
-      B⇒ Σ Π (h .frames) b v → I⇒ p cs Σ Π h (Instruction.show b) cs Σ Π h (shown (p .literals) (h .texts) v ++ (10 ∷ []))
+      B⇒ Σ Π (h .frames) b v → I⇒ p n cs Σ Π h (Instruction.show b) cs (following p n) Σ Π h (shown (p .literals) (h .texts) v ++ (10 ∷ []))
   i-jump : {a b : Base Path} {k : ℕ} {v : Value} →
       B⇒ Σ Π (h .frames) a (Value.Code k) → B⇒ Σ Π (h .frames) b v →
-      I⇒ p cs Σ Π h (Instruction.jump a b) (getD (p .codes) k Code.finished) v Π h []
+      I⇒ p n cs Σ Π h (Instruction.jump a b) (getD (p .codes) k Code.finished) (first-of p k) v Π h []
   i-ifeq₁ : {a b c : Base Path} {k : ℕ} {v : Value} →
       B⇒ Σ Π (h .frames) a zero-value → B⇒ Σ Π (h .frames) b (Value.Code k) → B⇒ Σ Π (h .frames) c v →
-      I⇒ p cs Σ Π h (Instruction.ifeq a b c) (getD (p .codes) k Code.finished) v Π h []
+      I⇒ p n cs Σ Π h (Instruction.ifeq a b c) (getD (p .codes) k Code.finished) (first-of p k) v Π h []
   i-ifeq₂ : {a b c : Base Path} {v : Value} →
-      B⇒ Σ Π (h .frames) a v → v ≢ zero-value → I⇒ p cs Σ Π h (Instruction.ifeq a b c) cs Σ Π h []
+      B⇒ Σ Π (h .frames) a v → v ≢ zero-value → I⇒ p n cs Σ Π h (Instruction.ifeq a b c) cs (following p n) Σ Π h []
   i-assign₁ : {e : Expression Path} {x : ℕ} {xs : List ℕ} {v : Value} {h′ : Heap} {frames : List Frame} →
-      E⇒ (constants p) Σ Π e h v h′ → Put⇒ (h′ .frames) v Σ (x ∷ xs) frames →
-      I⇒ p cs Σ Π h (Instruction.assign (from-self (x ∷ xs)) e) cs Σ Π (with-frames frames h′) []
+      E⇒ (constants p) n Σ Π e h v h′ → Put⇒ (h′ .frames) v Σ (x ∷ xs) frames →
+      I⇒ p n cs Σ Π h (Instruction.assign (from-self (x ∷ xs)) e) cs (following p n) Σ Π (with-frames frames h′) []
   i-assign₂ : {e : Expression Path} {v : Value} {h′ : Heap} →
-      E⇒ (constants p) Σ Π e h v h′ → I⇒ p cs Σ Π h (Instruction.assign (from-self []) e) cs v Π h′ []
+      E⇒ (constants p) n Σ Π e h v h′ → I⇒ p n cs Σ Π h (Instruction.assign (from-self []) e) cs (following p n) v Π h′ []
   i-assign₃ : {e : Expression Path} {x : ℕ} {xs : List ℕ} {v : Value} {h′ : Heap} {frames : List Frame} →
-      E⇒ (constants p) Σ Π e h v h′ → Put⇒ (h′ .frames) v Π (x ∷ xs) frames →
-      I⇒ p cs Σ Π h (Instruction.assign (from-program (x ∷ xs)) e) cs Σ Π (with-frames frames h′) []
+      E⇒ (constants p) n Σ Π e h v h′ → Put⇒ (h′ .frames) v Π (x ∷ xs) frames →
+      I⇒ p n cs Σ Π h (Instruction.assign (from-program (x ∷ xs)) e) cs (following p n) Σ Π (with-frames frames h′) []
   i-assign₄ : {e : Expression Path} {v : Value} {h′ : Heap} →
-      E⇒ (constants p) Σ Π e h v h′ → I⇒ p cs Σ Π h (Instruction.assign (from-program []) e) cs Σ v h′ []
+      E⇒ (constants p) n Σ Π e h v h′ → I⇒ p n cs Σ Π h (Instruction.assign (from-program []) e) cs (following p n) Σ v h′ []
 
--- ---- C: the list cs gives Σ′, Π′, the heap after it and the bytes that are shown
+-- ---- C: the list cs, whose first instruction is instruction n, gives Σ′, Π′, the heap after it and the bytes that are shown
 
-pub data C⇒ (p : Program) : Code Path → Value → Value → Heap → Value → Value → Heap → List ℕ → Type 0 where
-  c-empty : {Σ Π : Value} {h : Heap} → C⇒ p Code.finished Σ Π h Σ Π h []
-  c-not-empty : {c : Instruction Path} {cs cs′ : Code Path} {Σ Π Σ′ Π′ Σ″ Π″ : Value} {h h′ h″ : Heap} {line bs : List ℕ} →
-      I⇒ p cs Σ Π h c cs′ Σ′ Π′ h′ line → C⇒ p cs′ Σ′ Π′ h′ Σ″ Π″ h″ bs → C⇒ p (c then cs) Σ Π h Σ″ Π″ h″ (line ++ bs)
+pub data C⇒ (p : Program) : ℕ → Code Path → Value → Value → Heap → Value → Value → Heap → List ℕ → Type 0 where
+  c-empty : {n : ℕ} {Σ Π : Value} {h : Heap} → C⇒ p n Code.finished Σ Π h Σ Π h []
+  c-not-empty : {c : Instruction Path} {n n′ : ℕ} {cs cs′ : Code Path} {Σ Π Σ′ Π′ Σ″ Π″ : Value} {h h′ h″ : Heap} {line bs : List ℕ} →
+      I⇒ p n cs Σ Π h c cs′ n′ Σ′ Π′ h′ line → C⇒ p n′ cs′ Σ′ Π′ h′ Σ″ Π″ h″ bs → C⇒ p n (c then cs) Σ Π h Σ″ Π″ h″ (line ++ bs)
 
--- ---- The program: its frame is evaluated from the empty heap, with any values for Σ and Π; Σ is a further empty frame, and the list is that of Main.start
+-- ---- The program: its frame is evaluated from the empty heap, with any values for Σ and Π; Σ is a further empty frame, and the list is that of Main.start.
+-- Both are made by no instruction
 
 -- the numbers of the names Main and start
 unfoldable pub start-path : Program → List ℕ
@@ -136,9 +137,9 @@ start-path p = number-in (p .names) (bytes "Main") ∷ number-in (p .names) (byt
 
 pub data P⇒ (p : Program) : Value → Value → Heap → List ℕ → Type 0 where
   p-run : {Σ₀ Π₀ Σ Π Σ′ Π′ : Value} {h h′ : Heap} {k : ℕ} {bs : List ℕ} →
-      E⇒ (constants p) Σ₀ Π₀ (Expression.frame (p .slots)) empty-heap Π h → Σ ≡ Value.Frame (length (h .frames)) →
-      Fetch⇒ (with-frame h .frames) Π (start-path p) (Value.Code k) →
-      C⇒ p (getD (p .codes) k Code.finished) Σ Π (with-frame h) Σ′ Π′ h′ bs → P⇒ p Σ′ Π′ h′ bs
+      E⇒ (constants p) 0 Σ₀ Π₀ (Expression.frame (p .slots)) empty-heap Π h → Σ ≡ Value.Frame (length (h .frames)) →
+      Fetch⇒ (with-frame 0 h .frames) Π (start-path p) (Value.Code k) →
+      C⇒ p (first-of p k) (getD (p .codes) k Code.finished) Σ Π (with-frame 0 h) Σ′ Π′ h′ bs → P⇒ p Σ′ Π′ h′ bs
 
 -- ---- 32 to 35, where each is the first that is met
 
@@ -151,18 +152,18 @@ pub data OperationMeets (c : Constants) (h : Heap) : Operator → Value → Valu
   too-long : {v w : Value} → 64 < length (join-bytes (c .literals) (h .texts) v w) → OperationMeets c h Operator.join v w 34
 
 mutual
-  pub data ExpressionMeets (c : Constants) (Σ Π : Value) : Expression Path → Heap → ℕ → Type 0 where
+  pub data ExpressionMeets (c : Constants) (n : ℕ) (Σ Π : Value) : Expression Path → Heap → ℕ → Type 0 where
     in-operation : {o : Operator} {a b : Base Path} {h : Heap} {v w : Value} {e : ℕ} →
         B⇒ Σ Π (h .frames) a v → B⇒ Σ Π (h .frames) b w → OperationMeets c h o v w e →
-        ExpressionMeets c Σ Π (Expression.operation o a b) h e
+        ExpressionMeets c n Σ Π (Expression.operation o a b) h e
     in-a-frame : {ss : Slots Path} {h : Heap} {e : ℕ} →
-        SlotsMeet c Σ Π ss (with-frame h) e → ExpressionMeets c Σ Π (Expression.frame ss) h e
+        SlotsMeet c n Σ Π ss (with-frame n h) e → ExpressionMeets c n Σ Π (Expression.frame ss) h e
 
-  pub data SlotsMeet (c : Constants) (Σ Π : Value) : Slots Path → Heap → ℕ → Type 0 where
+  pub data SlotsMeet (c : Constants) (n : ℕ) (Σ Π : Value) : Slots Path → Heap → ℕ → Type 0 where
     in-first : {x : ℕ} {e : Expression Path} {ss : Slots Path} {h : Heap} {k : ℕ} →
-        ExpressionMeets c Σ Π e h k → SlotsMeet c Σ Π (Slots.slot x e ss) h k
+        ExpressionMeets c n Σ Π e h k → SlotsMeet c n Σ Π (Slots.slot x e ss) h k
     in-later : {x : ℕ} {e : Expression Path} {ss : Slots Path} {h h′ : Heap} {v : Value} {k : ℕ} →
-        E⇒ c Σ Π e h v h′ → SlotsMeet c Σ Π ss h′ k → SlotsMeet c Σ Π (Slots.slot x e ss) h k
+        E⇒ c n Σ Π e h v h′ → SlotsMeet c n Σ Π ss h′ k → SlotsMeet c n Σ Π (Slots.slot x e ss) h k
 
 -- Put would add a 17th slot
 pub data PutMeets (frames : List Frame) (w : Value) : Value → List ℕ → ℕ → Type 0 where
@@ -180,23 +181,23 @@ unfoldable pub names : Path → List ℕ
 names (from-self ns) = ns
 names (from-program ns) = ns
 
-pub data Meets (p : Program) (Σ Π : Value) (h : Heap) : Instruction Path → ℕ → Type 0 where
+pub data Meets (p : Program) (n : ℕ) (Σ Π : Value) (h : Heap) : Instruction Path → ℕ → Type 0 where
   in-expression : {path : Path} {e : Expression Path} {k : ℕ} →
-      ExpressionMeets (constants p) Σ Π e h k → Meets p Σ Π h (Instruction.assign path e) k
+      ExpressionMeets (constants p) n Σ Π e h k → Meets p n Σ Π h (Instruction.assign path e) k
   in-put : {path : Path} {e : Expression Path} {v : Value} {h′ : Heap} {k : ℕ} →
-      E⇒ (constants p) Σ Π e h v h′ → PutMeets (h′ .frames) v (root Σ Π path) (names path) k →
-      Meets p Σ Π h (Instruction.assign path e) k
+      E⇒ (constants p) n Σ Π e h v h′ → PutMeets (h′ .frames) v (root Σ Π path) (names path) k →
+      Meets p n Σ Π h (Instruction.assign path e) k
 
 -- ---- In a state
 
 -- the rule of the instruction i, with `rest` behind it, has the effect x in the state s
 abbrev pub Rule : Program → State → Code Path → Instruction Path → Effect → Type 0
-Rule p s rest i x = I⇒ p rest (s .self) (s .program) (s .heap) i (x .remaining) (x .self) (x .program) (x .heap) (x .line)
+Rule p s rest i x = I⇒ p (s .next) rest (s .self) (s .program) (s .heap) i (x .remaining) (x .next) (x .self) (x .program) (x .heap) (x .line)
 
 -- the number e of 32 to 35 is the first met in it
 abbrev pub FirstMet : Program → State → Instruction Path → ℕ → Type 0
-FirstMet p s i e = Meets p (s .self) (s .program) (s .heap) i e
+FirstMet p s i e = Meets p (s .next) (s .self) (s .program) (s .heap) i e
 
 -- the remaining instructions of the state s give these values, this heap and these bytes
 abbrev pub RunsTo : Program → State → Value → Value → Heap → List ℕ → Type 0
-RunsTo p s Σ Π h bs = C⇒ p (s .remaining) (s .self) (s .program) (s .heap) Σ Π h bs
+RunsTo p s Σ Π h bs = C⇒ p (s .next) (s .remaining) (s .self) (s .program) (s .heap) Σ Π h bs

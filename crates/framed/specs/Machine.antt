@@ -1,10 +1,10 @@
 -- Document 01, "The endless machine" (here: the unbounded machine): its state, Put, the value of a base and of an expression,
--- room (here: reserve), and one step; `#` is document 02's, A3, and `==` its A4. Assumes nothing.
+-- room (here: reserve), and one step; `#` is document 02's, A3, `==` its A4, and the maker of a frame its A5. Assumes nothing.
 use mathlib.Core.Path.{_≡_}
 use mathlib.Core.Bool.{Bool, true, false, not, _||_, _&&_}
 use mathlib.Core.List.{List, [], _∷_, _++_}
 use mathlib.Core.Option.{Option, none, some}
-use Prim.Native.Nat.{ℕ, zero, suc, _+_}
+use Prim.Native.Nat.{ℕ, zero, suc, pred, _+_}
 use lib.IntN.{ℤ, pos, negsuc, _+ℤ_, _-ℤ_, _*ℤ_}
 use lib.Signed.{ltZ, quotZ}
 use lib.ListN.{length, getD, getElem?, set}
@@ -124,89 +124,99 @@ pub record Filled : Type 0 where
   pub slots : List Slot
   pub heap : Heap
 
--- initFrame: a new frame, with the number after the last
-unfoldable pub with-frame : Heap → Heap
-with-frame h = record { frames = h .frames ++ (new-frame [] ∷ []); texts = h .texts }
+-- initFrame: a new frame of the maker n, with the number after the last
+unfoldable pub with-frame : ℕ → Heap → Heap
+with-frame n h = record { frames = h .frames ++ (new-frame n [] ∷ []); texts = h .texts }
 
 -- setH: the frame n is set
 unfoldable pub with-frames : List Frame → Heap → Heap
 with-frames frames h = record { frames = frames; texts = h .texts }
 
--- The value of an expression, operands left to right. A frame: take a new frame number, evaluate the slots in order, then store them
+-- The value of an expression of instruction n (0 at the start), operands left to right. A frame: take a new frame number, evaluate the slots in
+-- order, then store them
 unfoldable mutual
-  pub evaluate : Constants → Value → Value → Expression Path → Heap → Result Evaluated
-  evaluate c Σ Π (Expression.base b) h = do
+  pub evaluate : Constants → ℕ → Value → Value → Expression Path → Heap → Result Evaluated
+  evaluate c n Σ Π (Expression.base b) h = do
     v ← base-value Σ Π (h .frames) b
     evaluated v h
-  evaluate c Σ Π (Expression.not b) h = do
+  evaluate c n Σ Π (Expression.not b) h = do
     v ← base-value Σ Π (h .frames) b
     evaluated (bit (not (truth v))) h
-  evaluate c Σ Π (Expression.operation o a b) h = do
+  evaluate c n Σ Π (Expression.operation o a b) h = do
     v ← base-value Σ Π (h .frames) a
     w ← base-value Σ Π (h .frames) b
     operate c o v w h
-  evaluate c Σ Π (Expression.frame ss) h = do
-    r ← fill c Σ Π ss (with-frame h)
-    evaluated (Value.Frame (length (h .frames))) (with-frames (set (r .heap .frames) (length (h .frames)) (new-frame (r .slots))) (r .heap))
+  evaluate c n Σ Π (Expression.frame ss) h = do
+    r ← fill c n Σ Π ss (with-frame n h)
+    evaluated (Value.Frame (length (h .frames))) (with-frames (set (r .heap .frames) (length (h .frames)) (new-frame n (r .slots))) (r .heap))
 
-  pub fill : Constants → Value → Value → Slots Path → Heap → Result Filled
-  fill c Σ Π Slots.no-slots h = gives (record { slots = []; heap = h })
-  fill c Σ Π (Slots.slot n e ss) h = do
-    r ← evaluate c Σ Π e h
-    q ← fill c Σ Π ss (r .heap)
-    gives (record { slots = record { name = n; value = r .value } ∷ q .slots; heap = q .heap })
+  pub fill : Constants → ℕ → Value → Value → Slots Path → Heap → Result Filled
+  fill c n Σ Π Slots.no-slots h = gives (record { slots = []; heap = h })
+  fill c n Σ Π (Slots.slot x e ss) h = do
+    r ← evaluate c n Σ Π e h
+    q ← fill c n Σ Π ss (r .heap)
+    gives (record { slots = record { name = x; value = r .value } ∷ q .slots; heap = q .heap })
 
 -- ---- The rule of an instruction
 
--- what a rule gives: the remaining instructions, Σ, Π and the heap after it, and the line that it shows
+-- what a rule gives: the remaining instructions, the number of the first of them, Σ, Π and the heap after it, and the line that it shows
 pub record Effect : Type 0 where
   pub remaining : Code Path
+  pub next : ℕ
   pub self : Value
   pub program : Value
   pub heap : Heap
   pub line : List ℕ
 
-abbrev pub becomes : Code Path → Value → Value → Heap → List ℕ → Result Effect
-becomes rest Σ Π h line = gives (record { remaining = rest; self = Σ; program = Π; heap = h; line = line })
+abbrev pub becomes : Code Path → ℕ → Value → Value → Heap → List ℕ → Result Effect
+becomes rest n Σ Π h line = gives (record { remaining = rest; next = n; self = Σ; program = Π; heap = h; line = line })
+
+-- the number of the instruction that follows instruction n in its code, and of the first one of code k; 0 where there is none
+unfoldable pub following : Program → ℕ → ℕ
+following p n = getD (p .nexts) (pred n) 0
+
+unfoldable pub first-of : Program → ℕ → ℕ
+first-of p k = getD (p .firsts) k 0
 
 -- Put from the old Σ or Π; with an empty path, Σ or Π becomes the value, of any kind
-unfoldable pub assign-to : Value → Value → Code Path → Path → Value → Heap → Result Effect
-assign-to Σ Π rest (from-self []) v h = becomes rest v Π h []
-assign-to Σ Π rest (from-self (n ∷ ns)) v h = do
+unfoldable pub assign-to : Value → Value → Code Path → ℕ → Path → Value → Heap → Result Effect
+assign-to Σ Π rest m (from-self []) v h = becomes rest m v Π h []
+assign-to Σ Π rest m (from-self (n ∷ ns)) v h = do
   frames ← put (h .frames) Σ n ns v
-  becomes rest Σ Π (with-frames frames h) []
-assign-to Σ Π rest (from-program []) v h = becomes rest Σ v h []
-assign-to Σ Π rest (from-program (n ∷ ns)) v h = do
+  becomes rest m Σ Π (with-frames frames h) []
+assign-to Σ Π rest m (from-program []) v h = becomes rest m Σ v h []
+assign-to Σ Π rest m (from-program (n ∷ ns)) v h = do
   frames ← put (h .frames) Π n ns v
-  becomes rest Σ Π (with-frames frames h) []
+  becomes rest m Σ Π (with-frames frames h) []
 
--- the list of a value that is code
-unfoldable pub code-of : List (Code Path) → Value → Result (Code Path)
-code-of codes (Value.Int z) = ends 31
-code-of codes (Value.Text t) = ends 31
-code-of codes (Value.Code k) = gives (getD codes k Code.finished)
-code-of codes (Value.Frame n) = ends 31
+-- the code number of a value that is code
+unfoldable pub code-number : Value → Result ℕ
+code-number (Value.Int z) = ends 31
+code-number (Value.Text t) = ends 31
+code-number (Value.Code k) = gives k
+code-number (Value.Frame n) = ends 31
 
 -- the first operand must be code, and its list replaces the rest; Σ becomes the second, of any kind
 unfoldable pub jump-to : Program → Value → Value → Heap → Base Path → Base Path → Result Effect
 jump-to p Σ Π h a b = do
   v ← base-value Σ Π (h .frames) a
-  is ← code-of (p .codes) v
+  k ← code-number v
   w ← base-value Σ Π (h .frames) b
-  becomes is w Π h []
+  becomes (getD (p .codes) k Code.finished) (first-of p k) w Π h []
 
-unfoldable pub perform : Program → Value → Value → Heap → Code Path → Instruction Path → Result Effect
-perform p Σ Π h rest (Instruction.assign path e) = do
-  r ← evaluate (constants p) Σ Π e h
-  assign-to Σ Π rest path (r .value) (r .heap)
-perform p Σ Π h rest (Instruction.show a) = do
+-- the rule of instruction n, with `rest` behind it
+unfoldable pub perform : Program → ℕ → Value → Value → Heap → Code Path → Instruction Path → Result Effect
+perform p n Σ Π h rest (Instruction.assign path e) = do
+  r ← evaluate (constants p) n Σ Π e h
+  assign-to Σ Π rest (following p n) path (r .value) (r .heap)
+perform p n Σ Π h rest (Instruction.show a) = do
   v ← base-value Σ Π (h .frames) a
-  becomes rest Σ Π h (shown (p .literals) (h .texts) v ++ (10 ∷ []))
-perform p Σ Π h rest (Instruction.jump a b) = jump-to p Σ Π h a b
+  becomes rest (following p n) Σ Π h (shown (p .literals) (h .texts) v ++ (10 ∷ []))
+perform p n Σ Π h rest (Instruction.jump a b) = jump-to p Σ Π h a b
 -- integer 0 jumps; any other value goes on, and the two other operands are not evaluated
-perform p Σ Π h rest (Instruction.ifeq a b c) = do
+perform p n Σ Π h rest (Instruction.ifeq a b c) = do
   v ← base-value Σ Π (h .frames) a
-  if truth v then becomes rest Σ Π h [] else jump-to p Σ Π h b c
+  if truth v then becomes rest (following p n) Σ Π h [] else jump-to p Σ Π h b c
 
 -- ---- Reserve (document 01: room)
 
@@ -264,6 +274,8 @@ reserve F T frames Σ Π i =
 
 pub record State : Type 0 where
   pub remaining : Code Path
+  -- the number of the first of them, counted from 1 by where each begins in the source; 0 where none is left
+  pub next : ℕ
   pub self : Value
   pub program : Value
   pub heap : Heap
@@ -274,7 +286,7 @@ pub record State : Type 0 where
 unfoldable pub step : Program → ℕ → ℕ → State → Instruction Path → Code Path → Result Effect
 step p F T s i rest =
     elim (reserve F T (s .heap .frames) (s .self) (s .program) i) [
-      | zero ↦ perform p (s .self) (s .program) (s .heap) rest i
+      | zero ↦ perform p (s .next) (s .self) (s .program) (s .heap) rest i
       | suc n ↦ ends (suc n)
     ]
 
@@ -288,6 +300,7 @@ unfoldable pub after-step : State → Effect → State
 after-step s x =
     record {
       remaining = x .remaining;
+      next = x .next;
       self = x .self;
       program = x .program;
       heap = x .heap;
@@ -299,29 +312,31 @@ unfoldable pub marked : ℕ → State → State
 marked e s =
     record {
       remaining = s .remaining;
+      next = s .next;
       self = s .self;
       program = s .program;
       heap = s .heap;
       end-mark = e;
     }
 
--- At the start: the written frames outside code are made (by the rule of a frame expression, which meets no path there),
+-- At the start: the written frames outside code are made, of maker 0 (by the rule of a frame expression, which meets no path there),
 -- Π is the outer one, Σ a further empty frame, and the list is that of Main.start
 unfoldable pub start-from : Program → Result Evaluated → State
 start-from p (ends e) =
-    record { remaining = Code.finished; self = Value.Int (pos 0); program = Value.Int (pos 0); heap = empty-heap; end-mark = e }
+    record { remaining = Code.finished; next = 0; self = Value.Int (pos 0); program = Value.Int (pos 0); heap = empty-heap; end-mark = e }
 start-from p (gives r) =
     record {
       remaining = getD (p .codes) (p .start) Code.finished;
+      next = first-of p (p .start);
       self = Value.Frame (length (r .heap .frames));
       program = r .value;
-      heap = with-frame (r .heap);
+      heap = with-frame 0 (r .heap);
       end-mark = 0;
     }
 
 unfoldable pub start : Program → State
-start p = start-from p (evaluate (constants p) (Value.Int (pos 0)) (Value.Int (pos 0)) (Expression.frame (p .slots)) empty-heap)
+start p = start-from p (evaluate (constants p) 0 (Value.Int (pos 0)) (Value.Int (pos 0)) (Expression.frame (p .slots)) empty-heap)
 
 unfoldable pub Machine : Type 0
-unfolding _>>=_ defined set-slot holds frame-number put-slot put base-value integer-in integer-result quotient new-text operate with-frame with-frames evaluate assign-to code-of jump-to perform frame-literals is-join join-signs right-side reserve-for reserve step after-step marked start-from start
+unfolding _>>=_ defined set-slot holds frame-number put-slot put base-value integer-in integer-result quotient new-text operate with-frame with-frames evaluate following first-of assign-to code-number jump-to perform frame-literals is-join join-signs right-side reserve-for reserve step after-step marked start-from start
 Machine = ℕ

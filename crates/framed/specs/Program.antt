@@ -1,7 +1,9 @@
--- Document 01, "Limits and paths": what load makes of an accepted source, the resolved program that runs. Assumes nothing.
+-- Document 01, "Limits and paths": what load makes of an accepted source, the resolved program that runs; document 02, A5:
+-- the numbers of its instructions. Assumes nothing.
 use mathlib.Core.List.{List, [], _∷_, _++_}
 use mathlib.Core.Option.{Option, none, some}
-use Prim.Native.Nat.{ℕ}
+use Prim.Native.Nat.{ℕ, suc, _+_}
+use lib.ListN.{length}
 use Rattle.framed.specs.Bytes.{class}
 use Rattle.framed.specs.Tokens.{Token, tokens}
 use Rattle.framed.specs.Symbols.{name-table, literals, symbols}
@@ -10,11 +12,12 @@ use Rattle.framed.specs.Parse.{parse}
 use Rattle.framed.specs.Paths.{Path, resolve-slots, program-place}
 use Rattle.framed.specs.Meaning.{main-start}
 
--- A code literal or an instruction of a source. `parts` lists them in the order in which they begin, a whole before what is inside it:
--- code k is the k-th code of that list, instruction k its k-th instruction, both counted from 0
+-- A code literal, or an instruction with what follows it in its code. `parts` lists them in the order in which they begin, a whole before what
+-- is inside it: code k is the k-th code of that list, counted from 0; instruction k its k-th instruction, in `Program.instructions` counted from 0,
+-- as the maker of a frame from 1
 pub data Part : Type 0 where
   block : Code Path → Part
-  line : Instruction Path → Part
+  line : Instruction Path → Code Path → Part
 
 unfoldable mutual
   pub base-parts : Base Path → List Part
@@ -41,17 +44,34 @@ unfoldable mutual
 
   pub code-parts : Code Path → List Part
   code-parts Code.finished = []
-  code-parts (i then is) = line i ∷ instruction-parts i ++ code-parts is
+  code-parts (i then is) = line i is ∷ instruction-parts i ++ code-parts is
 
 unfoldable pub codes-in : List Part → List (Code Path)
 codes-in [] = []
 codes-in (block is ∷ ps) = is ∷ codes-in ps
-codes-in (line i ∷ ps) = codes-in ps
+codes-in (line i is ∷ ps) = codes-in ps
 
 unfoldable pub instructions-in : List Part → List (Instruction Path)
 instructions-in [] = []
 instructions-in (block is ∷ ps) = instructions-in ps
-instructions-in (line i ∷ ps) = i ∷ instructions-in ps
+instructions-in (line i is ∷ ps) = i ∷ instructions-in ps
+
+-- the number of the first instruction of a code, where the instruction that begins next has the number n; 0 where the code has none
+unfoldable pub first-number : ℕ → Code Path → ℕ
+first-number n Code.finished = 0
+first-number n (i then is) = n
+
+-- the number of the first instruction of each code, where the first instruction among the parts has the number n
+unfoldable pub firsts-in : ℕ → List Part → List ℕ
+firsts-in n [] = []
+firsts-in n (block is ∷ ps) = first-number n is ∷ firsts-in n ps
+firsts-in n (line i is ∷ ps) = firsts-in (suc n) ps
+
+-- of each instruction, the number of the one that follows it in its code, 0 where it is the last: those inside it begin before that one
+unfoldable pub nexts-in : ℕ → List Part → List ℕ
+nexts-in n [] = []
+nexts-in n (block is ∷ ps) = nexts-in n ps
+nexts-in n (line i is ∷ ps) = first-number (suc n + length (instructions-in (instruction-parts i))) is ∷ nexts-in (suc n) ps
 
 pub record Program : Type 0 where
   -- the name table, by first appearance
@@ -62,6 +82,10 @@ pub record Program : Type 0 where
   pub codes : List (Code Path)
   -- all instructions, by where each begins
   pub instructions : List (Instruction Path)
+  -- of each code the number of its first instruction, of each instruction the number of the one that follows it in its code; counted from 1,
+  -- 0 where there is none
+  pub firsts : List ℕ
+  pub nexts : List ℕ
   -- the slots of the program frame, as written outside code
   pub slots : Slots Path
   -- the number of the code in Main.start
@@ -75,6 +99,8 @@ program-of ts ss k =
       literals = literals ts;
       codes = codes-in (slots-parts ss);
       instructions = instructions-in (slots-parts ss);
+      firsts = firsts-in 1 (slots-parts ss);
+      nexts = nexts-in 1 (slots-parts ss);
       slots = ss;
       start = k;
     }
@@ -96,5 +122,5 @@ unfoldable pub program : List ℕ → Option Program
 program source = program-of-tokens (tokens class source)
 
 unfoldable pub Programs : Type 0
-unfolding base-parts codes-in instructions-in program-of started program-of-tree program-of-tokens program
+unfolding base-parts codes-in instructions-in first-number firsts-in nexts-in program-of started program-of-tree program-of-tokens program
 Programs = ℕ

@@ -15,7 +15,7 @@ unfoldable pub slot-value : Slot → Value
 slot-value s = s .value
 
 unfoldable pub values-in : List Frame → ℕ → List Value
-values-in frames n = map slot-value (getD frames n (new-frame []) .slots)
+values-in frames n = map slot-value (getD frames n (new-frame 0 []) .slots)
 
 pub data Reachable (frames : List Frame) (Σ Π : Value) : Value → Type 0 where
   self : Reachable frames Σ Π Σ

@@ -5,7 +5,7 @@ use mathlib.Core.Bool.{true, false}
 use mathlib.Core.List.{List, [], _∷_, _++_}
 use mathlib.Core.Option.{none, some}
 use Prim.Native.Nat.{ℕ, suc, _+_, _-_, _≤_, _<_}
-use lib.ListN.{length, take, getD}
+use lib.ListN.{length, take, getD, getElem?}
 use Rattle.framed.specs.declared.Value.{Value}
 use Rattle.framed.specs.declared.Text.{Text}
 use Rattle.framed.specs.Common.{member, has-twice, _∈_, Twice}
@@ -24,11 +24,11 @@ use Rattle.framed.specs.Values.{Frame, Heap, join-bytes}
 use Rattle.framed.specs.Equality.{Constants, constants, same-code, plain-code, equal-values}
 use Rattle.framed.specs.Fetch.{fetch}
 use Rattle.framed.specs.Writer.{common-prefix, written-path}
-use Rattle.framed.specs.Machine.{State, Effect, gives, ends, operate, evaluate, Ready, right-side, frame-literals, join-signs, step, start}
+use Rattle.framed.specs.Machine.{State, Effect, gives, ends, operate, evaluate, Ready, right-side, frame-literals, join-signs, step, first-of, following, start}
 use Rattle.framed.specs.Judgments.{Fetch⇒, B⇒, start-path, P⇒, Rule, FirstMet, RunsTo}
 use Rattle.framed.specs.Answers.{Stopped, Look}
-use Rattle.framed.specs.Calls.{Unbounded, at-start, Ran, run, frame-total, text-total, read-path, look, look-text, LooksAs, LooksTextAs}
-use Rattle.framed.specs.Alike.{InReach}
+use Rattle.framed.specs.Calls.{Unbounded, at-start, Ran, run, Call, calls, frame-total, text-total, maker-in, made-by, read-path, look, look-text, LooksAs, LooksTextAs}
+use Rattle.framed.specs.Alike.{Alike, InReach}
 
 -- `tokens` gives the tokens that stand in the bytes one after the other, and nothing exactly when some bytes form none
 unfoldable pub TokensExact : Type 0
@@ -94,7 +94,8 @@ pub record Done (r : Ran) (steps : ℕ) (Σ Π : Value) (h : Heap) (bs : List �
   pub stop : r .stop ≡ Stopped.end 0
   pub made : r .steps ≡ steps
   pub shown : r .bytes ≡ bs
-  pub state : r .machine .state ≡ record { remaining = Code.finished; self = Σ; program = Π; heap = h; end-mark = 0 }
+  -- nothing remains, and so no number of a next instruction matters
+  pub state : r .machine .state ≡ record { remaining = Code.finished; next = r .machine .state .next; self = Σ; program = Π; heap = h; end-mark = 0 }
 
 -- the run ended for lack of room at the instruction i: the reachable frames plus f exceed F, or the reachable made texts plus t exceed T
 pub data EndsFull (F T : ℕ) (r : Ran) : Type 0 where
@@ -182,8 +183,8 @@ pub record JoinTotal : Type 0 where
       (operate c Operator.join v w h ≡ ends 34) ↔ (64 < length (join-bytes (c .literals) (h .texts) v w))
   pub no-other-end : (c : Constants) (v w : Value) (h : Heap) (e : ℕ) → operate c Operator.join v w h ≡ ends e → e ≡ 34
   -- the expression ends 31 exactly when an operand has no value, however long the other is
-  pub no-value : (c : Constants) (Σ Π : Value) (a b : Base Path) (h : Heap) →
-      (evaluate c Σ Π (Expression.operation Operator.join a b) h ≡ ends 31)
+  pub no-value : (c : Constants) (n : ℕ) (Σ Π : Value) (a b : Base Path) (h : Heap) →
+      (evaluate c n Σ Π (Expression.operation Operator.join a b) h ≡ ends 31)
       ↔ (((v : Value) → ¬ B⇒ Σ Π (h .frames) a v) ⊎ ((w : Value) → ¬ B⇒ Σ Π (h .frames) b w))
 
 -- ---- Document 02, A4
@@ -207,3 +208,34 @@ pub record EqualCodes : Type 0 where
   -- of a code and a value of any other kind it is 0
   pub other-kinds : (p : Program) (made : List (List ℕ)) (k : ℕ) (w : Value) → ((l : ℕ) → w ≢ Value.Code l) →
       equal-values (constants p) made (Value.Code k) w ≡ false
+
+-- ---- Document 02, A5
+
+-- the code `is` begins with instruction n: n is its place in `Program.instructions`, counted from 1, and what follows it in the code is numbered so too
+pub data Numbered (p : Program) : ℕ → Code Path → Type 0 where
+  none-left : Numbered p 0 Code.finished
+  first : {n : ℕ} {i : Instruction Path} {is : Code Path} →
+      getElem? (p .instructions) n ≡ some i → Numbered p (following p (suc n)) is → Numbered p (suc n) (i then is)
+
+-- every code of the program is numbered so from its first instruction on
+abbrev pub CodesNumbered : Program → Type 0
+CodesNumbered p = (k : ℕ) → Numbered p (first-of p k) (getD (p .codes) k Code.finished)
+
+-- `State.next` is the number of the first of the remaining instructions: so at the start of a source's program, after every step, and after every list of runs
+-- and collects
+pub record InstructionsNumbered : Type 0 where
+  pub codes : (source : List ℕ) (p : Program) → program source ≡ some p → CodesNumbered p
+  pub start : (source : List ℕ) (p : Program) → program source ≡ some p → Numbered p (start p .next) (start p .remaining)
+  pub steps : (p : Program) (F T : ℕ) (s : State) (i : Instruction Path) (rest : Code Path) (x : Effect) → CodesNumbered p →
+      Numbered p (s .next) (s .remaining) → s .remaining ≡ (i then rest) → step p F T s i rest ≡ gives x → Numbered p (x .next) (x .remaining)
+  pub runs : (source : List ℕ) (p : Program) (F T : ℕ) (cs : List Call) → program source ≡ some p →
+      let s = calls p F T cs (at-start p) .machine .state in
+      Numbered p (s .next) (s .remaining)
+
+-- `made-by` counts the reachable frames of a maker
+abbrev pub MakersCounted : Type 0
+MakersCounted = (s : State) (n : ℕ) → Counts (λ f. InReach s (Value.Frame f) × (maker-in (s .heap .frames) f ≡ n)) (made-by s n)
+
+-- in states that are alike each instruction made as many
+abbrev pub MakersAlike : Type 0
+MakersAlike = (s t : State) → Alike s t → (n : ℕ) → made-by s n ≡ made-by t n

@@ -1,5 +1,5 @@
 -- Document 01, "The endless machine" (here: the unbounded machine): values, frames, texts and the heap; what each value is when it is shown or tested,
--- and with document 02's A3 when it is joined. `Equality` compares them. Values are those of the crate's enums `Value` and `Text`. Assumes nothing.
+-- and with document 02's A3 when it is joined; with its A5 the maker of a frame. `Equality` compares values. They are those of the crate's enums `Value` and `Text`. Assumes nothing.
 use mathlib.Core.Bool.{Bool, true, false}
 use mathlib.Core.List.{List, [], _∷_, _++_}
 use Prim.Native.Nat.{ℕ, zero, suc, _+_, _/_, _%_}
@@ -10,20 +10,22 @@ use Rattle.framed.specs.declared.Value.{Value}
 use Rattle.framed.specs.declared.Text.{Text}
 use Rattle.framed.specs.Common.{bytes}
 
--- A slot has the number of its name, and a value; a frame has its slots, in the order in which they were added
+-- A slot has the number of its name, and a value; a frame has its slots, in the order in which they were added, and its maker: the number of
+-- the instruction that made it, counted from 1 by where each begins in the source, 0 where it was made at the start
 pub record Slot : Type 0 where
   pub name : ℕ
   pub value : Value
 
 pub record Frame : Type 0 where
   pub slots : List Slot
+  pub maker : ℕ
 
--- a new frame with these slots, and a frame whose slots become these
-abbrev pub new-frame : List Slot → Frame
-new-frame ss = record { slots = ss }
+-- a new frame of a maker with these slots, and a frame whose slots become these
+abbrev pub new-frame : ℕ → List Slot → Frame
+new-frame n ss = record { slots = ss; maker = n }
 
 abbrev pub with-slots : Frame → List Slot → Frame
-with-slots f ss = record { slots = ss }
+with-slots f ss = record { slots = ss; maker = f .maker }
 
 -- The heap: frame n is the n-th frame, made text n the n-th text. It only grows
 pub record Heap : Type 0 where

@@ -77,12 +77,18 @@ pub enum WriteAnswer {
     ShortBuffer,
 }
 
-// What look answers: the kind, for an integer with the number; or why not.
+// What makers answers: that the counts are written, or that the memories are not well-formed.
+pub enum MakersAnswer {
+    Counted,
+    NotWellFormed,
+}
+
+// What look answers: the kind, for an integer with the number, for a frame with the number of the instruction that made it (0: at loading); or why not.
 pub enum LookAnswer {
     Integer(i32),
     Text,
     Code,
-    Frame,
+    Frame(u32),
     NotWellFormed,
     NotPath,
     Undefined,

@@ -15,40 +15,38 @@ use Rattle.wellformed.specs.WellFormed.{WellFormed, well-formed}
 use Rattle.wellformed.proofs.Decides.{well-formed-decides}
 use Rattle.look.specs.Look.{look-call, LookMeans, look-bytes, LookTextMeans}
 use Rattle.look.proofs.Means.{look-text-is-fetch}
-use Rattle.framed_c.specs.Look.{integer-cell, LooksInC, LooksTextInC}
+use Rattle.framed_c.specs.Look.{integer-cell, maker-cell, LooksInC, LooksTextInC}
 
--- a cell that no integer is written to stays
-cell-stays : (a : LookAnswer) (z : ℤ) → OneOf (1 ∷ 2 ∷ 3 ∷ 4 ∷ 5 ∷ 6 ∷ []) (tagOf the-type a) → z ≡ integer-cell a z
-unfolding integer-cell
-cell-stays (LookAnswer.Integer n) z k = absurd (miss (1 ∷ 2 ∷ 3 ∷ 4 ∷ 5 ∷ 6 ∷ []) 0 tt k)
-cell-stays LookAnswer.Text z k = refl
-cell-stays LookAnswer.Code z k = refl
-cell-stays LookAnswer.Frame z k = refl
-cell-stays LookAnswer.NotWellFormed z k = refl
-cell-stays LookAnswer.NotPath z k = refl
-cell-stays LookAnswer.Undefined z k = refl
+-- ---- The cells: what is not an integer, or not a frame, leaves its cell as it was
 
-module _ (p h l t path : List ℕ) (a : LookAnswer) (exact : a ≡ look-call p h l t path) (meaning : LookMeans p h l t path a) where
-  pub integer-found : (r : ℕ) (n m z : ℤ) → a ≡ LookAnswer.Integer n → m ≡ n → r ≡ look-number (LookAnswer.Integer n) → LooksInC p h l t path z r m
+module _ (a : LookAnswer) where
+  pub integer-written : (n m z : ℤ) → a ≡ LookAnswer.Integer n → m ≡ n → m ≡ integer-cell a z
   unfolding integer-cell
-  integer-found r n m z e i is =
-      record {
-        answer = a;
-        exact = exact;
-        meaning = meaning;
-        number = rw e is;
-        integer-after = i ∙ rw e;
-      }
+  integer-written n m z e i = i ∙ rw e
 
-  pub other-found : (r : ℕ) (z : ℤ) → OneOf (1 ∷ 2 ∷ 3 ∷ 4 ∷ 5 ∷ 6 ∷ []) (tagOf the-type a) → r ≡ look-number a → LooksInC p h l t path z r z
-  other-found r z k e =
-      record {
-        answer = a;
-        exact = exact;
-        meaning = meaning;
-        number = e;
-        integer-after = cell-stays a z k;
-      }
+  pub maker-written : (n m k : ℕ) → a ≡ LookAnswer.Frame n → m ≡ n → m ≡ maker-cell a k
+  unfolding maker-cell
+  maker-written n m k e i = i ∙ rw e
+
+pub integer-stays : (a : LookAnswer) (z : ℤ) → OneOf (1 ∷ 2 ∷ 3 ∷ 4 ∷ 5 ∷ 6 ∷ []) (tagOf the-type a) → z ≡ integer-cell a z
+unfolding integer-cell
+integer-stays (LookAnswer.Integer n) z k = absurd (miss (1 ∷ 2 ∷ 3 ∷ 4 ∷ 5 ∷ 6 ∷ []) 0 tt k)
+integer-stays LookAnswer.Text z k = refl
+integer-stays LookAnswer.Code z k = refl
+integer-stays (LookAnswer.Frame n) z k = refl
+integer-stays LookAnswer.NotWellFormed z k = refl
+integer-stays LookAnswer.NotPath z k = refl
+integer-stays LookAnswer.Undefined z k = refl
+
+pub maker-stays : (a : LookAnswer) (m : ℕ) → OneOf (0 ∷ 1 ∷ 2 ∷ 4 ∷ 5 ∷ 6 ∷ []) (tagOf the-type a) → m ≡ maker-cell a m
+unfolding maker-cell
+maker-stays (LookAnswer.Integer n) m k = refl
+maker-stays LookAnswer.Text m k = refl
+maker-stays LookAnswer.Code m k = refl
+maker-stays (LookAnswer.Frame n) m k = absurd (miss (0 ∷ 1 ∷ 2 ∷ 4 ∷ 5 ∷ 6 ∷ []) 3 tt k)
+maker-stays LookAnswer.NotWellFormed m k = refl
+maker-stays LookAnswer.NotPath m k = refl
+maker-stays LookAnswer.Undefined m k = refl
 
 -- what the bytes mean leaves one list
 bytes-are : (p h l t path bytes : List ℕ) → LookTextMeans p h l t path bytes → bytes ≡ look-bytes p h l t path

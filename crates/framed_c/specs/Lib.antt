@@ -3,3 +3,4 @@ pub mod Run
 pub mod Collect
 pub mod Look
 pub mod Write
+pub mod Makers

@@ -15,18 +15,29 @@ unfoldable pub integer-cell : LookAnswer → ℤ → ℤ
 integer-cell (LookAnswer.Integer z) before = z
 integer-cell LookAnswer.Text before = before
 integer-cell LookAnswer.Code before = before
-integer-cell LookAnswer.Frame before = before
+integer-cell (LookAnswer.Frame n) before = before
 integer-cell LookAnswer.NotWellFormed before = before
 integer-cell LookAnswer.NotPath before = before
 integer-cell LookAnswer.Undefined before = before
 
--- the call of the crate `look`, its answer as a number and a cell
-pub record LooksInC (p h l t path : List ℕ) (integer : ℤ) (r : ℕ) (integer′ : ℤ) : Type 0 where
+-- and of the maker: only that of a frame is
+unfoldable pub maker-cell : LookAnswer → ℕ → ℕ
+maker-cell (LookAnswer.Integer z) before = before
+maker-cell LookAnswer.Text before = before
+maker-cell LookAnswer.Code before = before
+maker-cell (LookAnswer.Frame n) before = n
+maker-cell LookAnswer.NotWellFormed before = before
+maker-cell LookAnswer.NotPath before = before
+maker-cell LookAnswer.Undefined before = before
+
+-- the call of the crate `look`, its answer as a number and two cells
+pub record LooksInC (p h l t path : List ℕ) (integer : ℤ) (maker : ℕ) (r : ℕ) (integer′ : ℤ) (maker′ : ℕ) : Type 0 where
   pub answer : LookAnswer
   pub exact : answer ≡ look-call p h l t path
   pub meaning : LookMeans p h l t path answer
   pub number : r ≡ look-number answer
   pub integer-after : integer′ ≡ integer-cell answer integer
+  pub maker-after : maker′ ≡ maker-cell answer maker
 
 -- its companion: how many bytes the text has, and the buffer with them at its front, as far as they fit
 pub record LooksTextInC (p h l t path : List ℕ) (out : List ℕ) (r : ℕ) (out′ : List ℕ) : Type 0 where

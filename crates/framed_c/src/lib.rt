@@ -4,12 +4,14 @@ use framed::CollectAnswer;
 use framed::LookAnswer;
 use framed::RunAnswer;
 use framed::WriteAnswer;
+ghost use mathlib.Core.Path.{_≡_};
 ghost use Rattle.load.specs.Load.{memories};
 ghost use Rattle.framed_c.specs.Load.{LoadsInC};
 ghost use Rattle.framed_c.specs.Run.{RunsInC};
 ghost use Rattle.framed_c.specs.Collect.{CollectsInC};
-ghost use Rattle.framed_c.specs.Look.{LooksInC, LooksTextInC};
+ghost use Rattle.framed_c.specs.Look.{integer-cell, maker-cell, LooksInC, LooksTextInC};
 ghost use Rattle.framed_c.specs.Write.{WritesInC};
+ghost use Rattle.framed_c.specs.Makers.{CountsInC};
 
 #[no_mangle]
 pub extern "C" fn framed_load(
@@ -73,6 +75,25 @@ pub extern "C" fn framed_collect(
     }
 }
 
+// The cells that look writes: an integer's number, a frame's maker.
+fn write_integer(a: LookAnswer, integer: &mut i32)
+    ensures { λ _. ⌜ now (integer .exit) ≡ integer-cell a (now (integer .entry)) ⌝ }
+{
+    let LookAnswer::Integer(n) = a else {
+        return;
+    };
+    *integer = n;
+}
+
+fn write_maker(a: LookAnswer, maker: &mut u32)
+    ensures { λ _. ⌜ now (maker .exit) ≡ maker-cell a (now (maker .entry)) ⌝ }
+{
+    let LookAnswer::Frame(n) = a else {
+        return;
+    };
+    *maker = n;
+}
+
 #[no_mangle]
 pub extern "C" fn framed_look(
     p: &[u32],
@@ -81,14 +102,13 @@ pub extern "C" fn framed_look(
     t: &[u8],
     path: &[u8],
     integer: &mut i32,
+    maker: &mut u32,
 ) -> u32
-    ensures { λ r. ⌜ LooksInC (now (p .entry)) (now (h .entry)) (now (l .entry)) (now (t .entry)) (now (path .entry)) (now (integer .entry)) r (now (integer .exit)) ⌝ }
+    ensures { λ r. ⌜ LooksInC (now (p .entry)) (now (h .entry)) (now (l .entry)) (now (t .entry)) (now (path .entry)) (now (integer .entry)) (now (maker .entry)) r (now (integer .exit)) (now (maker .exit)) ⌝ }
 {
     let a = look::look(p, h, l, t, path);
-    let LookAnswer::Integer(n) = a else {
-        return answers::look_number(a);
-    };
-    *integer = n;
+    write_integer(a, integer);
+    write_maker(a, maker);
     answers::look_number(a)
 }
 
@@ -125,4 +145,18 @@ pub extern "C" fn framed_write(
     };
     *length = n;
     answers::write_number(a)
+}
+
+#[no_mangle]
+pub extern "C" fn framed_makers(
+    p: &[u32],
+    h: &[u32],
+    l: &[u8],
+    t: &[u8],
+    counts: &mut [u32; 513],
+) -> u32
+    ensures { λ r. ⌜ CountsInC (now (p .entry)) (now (h .entry)) (now (l .entry)) (now (t .entry)) (now (counts .entry)) r (now (counts .exit)) ⌝ }
+{
+    let a = makers::makers(p, h, l, t, counts);
+    answers::makers_number(a)
 }

@@ -15,18 +15,19 @@ use Rattle.framed.specs.declared.Value.{Value}
 use Rattle.framed.specs.Values.{Slot, Frame, new-frame}
 use Rattle.framed.specs.Common.{has-twice}
 use Rattle.framed.specs.Reach.{slot-value, values-in}
+use Rattle.framed.specs.Calls.{maker-in}
 use Rattle.heap.specs.Closed.{Sized, ValueFits, FrameInUse, TextInUse}
-use Rattle.heap.specs.Words.{self-held, program-held, position, end-mark, frame-used, slot-count-at, slot-name-at, slot-value-at, text-word, text-used, text-length, text-byte}
+use Rattle.heap.specs.Words.{self-held, program-held, position, end-mark, frame-used, slot-count-at, maker-at, slot-name-at, slot-value-at, text-word, text-used, text-length, text-byte}
 use Rattle.heap.specs.Words.{set-end-mark, set-slot-value, add-slot-at, add-slot, take-frame, take-text, set-text-byte}
 use Rattle.heap.specs.Lists.{listed}
 use Rattle.heap.specs.Held.{slot-held, slots-held, frame-held, text-held, frames-held, texts-held, frames-in-use, texts-in-use}
 use Rattle.heap.proofs.Lists.{listed-length, listed-at, listed-past, listed-same, listed-set, listed-has, listed-from, elem-at, passing-same, passing-more, passing-means, passing-has, passing-once, _∈_}
 use Rattle.heap.proofs.Laws.{Local, Same, local-same, same-part, same-self, same-program, same-position, same-end-mark}
-use Rattle.heap.proofs.Laws.{same-frame-used, same-count, same-name, same-value, same-text-word, same-text-used, same-text-length}
+use Rattle.heap.proofs.Laws.{same-frame-used, same-count, same-maker, same-name, same-value, same-text-word, same-text-used, same-text-length}
 use Rattle.heap.proofs.Laws.{set-end-local}
-use Rattle.heap.proofs.Laws.{set-slot-local, set-slot-is, set-slot-count, set-slot-name, set-slot-other}
-use Rattle.heap.proofs.Laws.{add-slot-is, add-slot-local, add-slot-count, add-slot-name, add-slot-value, add-slot-old-name, add-slot-old-value}
-use Rattle.heap.proofs.Laws.{take-frame-local, take-frame-used, take-frame-count}
+use Rattle.heap.proofs.Laws.{set-slot-local, set-slot-is, set-slot-count, set-slot-maker, set-slot-name, set-slot-other}
+use Rattle.heap.proofs.Laws.{add-slot-is, add-slot-local, add-slot-count, add-slot-maker, add-slot-name, add-slot-value, add-slot-old-name, add-slot-old-value}
+use Rattle.heap.proofs.Laws.{take-frame-local, take-frame-used, take-frame-count, take-frame-maker}
 use Rattle.heap.proofs.Laws.{take-text-local, take-text-word, set-byte-other}
 
 -- ---- Reading
@@ -45,13 +46,17 @@ module _ (h : List ℕ) where
   frame-past f d le = listed-past (frame-held h) 256 f d le
 
   pub frame-found : (f : ℕ) → f < 256 → getElem? (frames-held h) f ≡ some (frame-held h f)
-  frame-found f lt = elem-at (frames-held h) f (new-frame []) (let l = frames-length in omega arith) ∙ ap some (frame-at f (new-frame []) lt)
+  frame-found f lt = elem-at (frames-held h) f (new-frame 0 []) (let l = frames-length in omega arith) ∙ ap some (frame-at f (new-frame 0 []) lt)
 
-  pub frame-of-used : (f : ℕ) → frame-used h f ≡ true → frame-held h f ≡ new-frame (slots-held h f)
+  pub frame-of-used : (f : ℕ) → frame-used h f ≡ true → frame-held h f ≡ new-frame (maker-at h f) (slots-held h f)
   unfolding frame-held
   frame-of-used f e = rw e
 
-  pub frame-of-free : (f : ℕ) → frame-used h f ≡ false → frame-held h f ≡ new-frame []
+  pub maker-of-used : (f : ℕ) → f < 256 → frame-used h f ≡ true → maker-in (frames-held h) f ≡ maker-at h f
+  unfolding maker-in
+  maker-of-used f lt e = ap (λ (g : Frame). g .maker) (frame-at f (new-frame 0 []) lt ∙ frame-of-used f e)
+
+  pub frame-of-free : (f : ℕ) → frame-used h f ≡ false → frame-held h f ≡ new-frame 0 []
   unfolding frame-held
   frame-of-free f e = rw e
 
@@ -111,16 +116,16 @@ module _ (h : List ℕ) (f : ℕ) where
   pub in-slot-held : {v : Value} → InSlot h f v → List·Memᴰ v (values-in (frames-held h) f)
   unfolding values-in slot-value slots-held slot-held
   in-slot-held s =
-      rw (frame-at h f (new-frame []) (s .small), frame-of-used h f (s .used), ← s .value)
+      rw (frame-at h f (new-frame 0 []) (s .small), frame-of-used h f (s .used), ← s .value)
       (Memᴰ·map slot-value (listed-has (slot-held h f) (slot-count-at h f) (s .slot) (s .inside)))
 
   held-in-slot : (v : Value) (u : Bool) → f < 256 → frame-used h f ≡ u → List·Memᴰ v (values-in (frames-held h) f) → InSlot h f v
   unfolding values-in slot-value slots-held slot-held
   held-in-slot v true lt e m =
-      let a = Memᴰ·of-map slot-value (slots-held h f) (rw (frame-at h f (new-frame []) lt, frame-of-used h f e) at m) in
+      let a = Memᴰ·of-map slot-value (slots-held h f) (rw (frame-at h f (new-frame 0 []) lt, frame-of-used h f e) at m) in
       let b = listed-from (slot-held h f) (slot-count-at h f) (a .1) in
       record { small = lt; used = e; slot = b .0; inside = b .1; value = sym (ap slot-value (b .2)) ∙ a .2 }
-  held-in-slot v false lt e m = absurd (List·Memᴰ·not-nil (rw (frame-at h f (new-frame []) lt, frame-of-free h f e) at m))
+  held-in-slot v false lt e m = absurd (List·Memᴰ·not-nil (rw (frame-at h f (new-frame 0 []) lt, frame-of-free h f e) at m))
 
   pub in-slot-from : (v : Value) → List·Memᴰ v (values-in (frames-held h) f) → InSlot h f v
   unfolding values-in
@@ -128,7 +133,7 @@ module _ (h : List ℕ) (f : ℕ) where
     where
       go : Dec (f < 256) → InSlot h f v
       go (yes lt) = held-in-slot v (frame-used h f) lt refl m
-      go (no ge) = absurd (List·Memᴰ·not-nil (rw (frame-past h f (new-frame []) (omega arith)) at m))
+      go (no ge) = absurd (List·Memᴰ·not-nil (rw (frame-past h f (new-frame 0 []) (omega arith)) at m))
 
 -- ---- What is left alone
 
@@ -176,7 +181,8 @@ module _ {h h′ : List ℕ} where
 
       go : (b : Bool) → frame-used h g ≡ b → frame-held h′ g ≡ frame-held h g
       go true e =
-          frame-of-used h′ g (used ∙ e) ∙ ap new-frame (slots-same g (same-part s _ _ (omega arith) (omega arith)) (le e)) ∙ sym (frame-of-used h g e)
+          let b : Same (129 + 51 * g) (179 + 51 * g) h h′ = same-part s _ _ (omega arith) (omega arith) in
+          frame-of-used h′ g (used ∙ e) ∙ ap₂ new-frame (same-maker g b) (slots-same g b (le e)) ∙ sym (frame-of-used h g e)
       go false e = frame-of-free h′ g (used ∙ e) ∙ sym (frame-of-free h g e)
 
   frames-by : Sized h → ((g : ℕ) → g < 256 → Same (128 + 51 * g) (179 + 51 * g) h h′) → SameFrames h h′
@@ -300,10 +306,12 @@ module _ (h : List ℕ) (s : Sized h) (f : ℕ) (hf : f < 256) (u : frame-used h
             → slot-held (set-slot-value h f i v) f j ≡ record { name = slot-name-at h f i; value = v }
         at j p q = λ t. record { name = p t; value = q t }
 
-    pub set-slot-frames : ValueFits v → frames-held (set-slot-value h f i v) ≡ set (frames-held h) f (new-frame (set (slots-held h f) i (record { name = slot-name-at h f i; value = v })))
+    pub set-slot-frames : ValueFits v → frames-held (set-slot-value h f i v) ≡ set (frames-held h) f (new-frame (maker-at h f) (set (slots-held h f) i (record { name = slot-name-at h f i; value = v })))
     set-slot-frames vf =
         frames-with h _ s f hf (widen f set-slot-within) _
-        (frame-of-used _ f (body-used h _ s f hf set-slot-within f ∙ u) ∙ ap new-frame (set-slot-slots vf))
+        (let m = few in
+        frame-of-used _ f (body-used h _ s f hf set-slot-within f ∙ u)
+        ∙ ap₂ new-frame (set-slot-maker h f i v (s .size) hf (omega arith)) (set-slot-slots vf))
 
     pub set-slot-in-use : frames-in-use (set-slot-value h f i v) ≡ frames-in-use h
     set-slot-in-use = used-same h _ (λ g lt. body-used h _ s f hf set-slot-within g)
@@ -335,11 +343,12 @@ module _ (h : List ℕ) (s : Sized h) (f : ℕ) (hf : f < 256) (u : frame-used h
         at : slot-name-at added f (slot-count-at h f) ≡ x → slot-value-at added f (slot-count-at h f) ≡ v → slot-held added f (slot-count-at h f) ≡ record { name = x; value = v }
         at p q = λ t. record { name = p t; value = q t }
 
-    pub add-slot-frames : ValueFits v → frames-held (add-slot h f x v) ≡ set (frames-held h) f (new-frame (slots-held h f ++ (record { name = x; value = v } ∷ [])))
+    pub add-slot-frames : ValueFits v → frames-held (add-slot h f x v) ≡ set (frames-held h) f (new-frame (maker-at h f) (slots-held h f ++ (record { name = x; value = v } ∷ [])))
     add-slot-frames vf =
         rw (add-slot-is h f x v room)
         (frames-with h added s f hf (widen f add-within) _
-        (frame-of-used added f (body-used h added s f hf add-within f ∙ u) ∙ ap new-frame (rw (add-slot-is h f x v room) at (add-slot-slots vf))))
+        (frame-of-used added f (body-used h added s f hf add-within f ∙ u)
+        ∙ ap₂ new-frame (add-slot-maker h f (slot-count-at h f) x v (s .size) hf room) (rw (add-slot-is h f x v room) at (add-slot-slots vf))))
 
     pub add-slot-in-use : frames-in-use (add-slot h f x v) ≡ frames-in-use h
     add-slot-in-use = rw (add-slot-is h f x v room) (used-same h added (λ g lt. body-used h added s f hf add-within g))
@@ -355,34 +364,34 @@ module _ (h : List ℕ) (s : Sized h) (f : ℕ) (hf : f < 256) (u : frame-used h
         rw (add-slot-is h f x v room)
         (frame-sized h added s f hf (widen f add-within) (λ q. rw (add-slot-count h f (slot-count-at h f) x v (s .size) hf room) (omega arith)))
 
--- take_frame, free_frame
+-- take_frame
 no-slots : (h : List ℕ) (f : ℕ) → slot-count-at h f ≡ 0 → slots-held h f ≡ []
 unfolding slots-held listed
 no-slots h f e = rw e
 
-module _ (h : List ℕ) (s : Sized h) (f : ℕ) (hf : f < 256) where
-  take-within : Local (128 + 51 * f) (179 + 51 * f) h (take-frame h f)
-  take-within = take-frame-local h f (s .size) hf
+module _ (h : List ℕ) (s : Sized h) (f m : ℕ) (hf : f < 256) where
+  take-within : Local (128 + 51 * f) (179 + 51 * f) h (take-frame h f m)
+  take-within = take-frame-local h f m (s .size) hf
 
-  pub take-frame-slots : slots-held (take-frame h f) f ≡ []
-  take-frame-slots = no-slots _ f (take-frame-count h f (s .size) hf)
+  pub take-frame-slots : slots-held (take-frame h f m) f ≡ []
+  take-frame-slots = no-slots _ f (take-frame-count h f m (s .size) hf)
 
-  pub take-frame-frames : frames-held (take-frame h f) ≡ set (frames-held h) f (new-frame [])
+  pub take-frame-frames : frames-held (take-frame h f m) ≡ set (frames-held h) f (new-frame m [])
   take-frame-frames =
-      frames-with h _ s f hf take-within (new-frame []) (frame-of-used _ f (take-frame-used h f (s .size) hf) ∙ ap new-frame take-frame-slots)
+      frames-with h _ s f hf take-within (new-frame m []) (frame-of-used _ f (take-frame-used h f m (s .size) hf) ∙ ap₂ new-frame (take-frame-maker h f m (s .size) hf) take-frame-slots)
 
-  pub take-frame-others : (g : ℕ) → g ≢ f → frame-used (take-frame h f) g ≡ frame-used h g
+  pub take-frame-others : (g : ℕ) → g ≢ f → frame-used (take-frame h f m) g ≡ frame-used h g
   take-frame-others = others-used h _ s f hf take-within
 
-  pub take-frame-count-one : frame-used h f ≡ false → length (frames-in-use (take-frame h f)) ≡ suc (length (frames-in-use h))
+  pub take-frame-count-one : frame-used h f ≡ false → length (frames-in-use (take-frame h f m)) ≡ suc (length (frames-in-use h))
   unfolding frames-in-use
-  take-frame-count-one e = passing-more (frame-used h) (frame-used (take-frame h f)) 256 f hf e (take-frame-used h f (s .size) hf) (λ g lt ne. take-frame-others g ne)
+  take-frame-count-one e = passing-more (frame-used h) (frame-used (take-frame h f m)) 256 f hf e (take-frame-used h f m (s .size) hf) (λ g lt ne. take-frame-others g ne)
 
-  pub take-frame-texts : SameTexts h (take-frame h f)
+  pub take-frame-texts : SameTexts h (take-frame h f m)
   take-frame-texts = kept-texts h _ s f hf take-within
 
-  pub take-frame-sized : Sized (take-frame h f)
-  take-frame-sized = frame-sized h _ s f hf take-within (λ q. rw (take-frame-count h f (s .size) hf) (omega arith))
+  pub take-frame-sized : Sized (take-frame h f m)
+  take-frame-sized = frame-sized h _ s f hf take-within (λ q. rw (take-frame-count h f m (s .size) hf) (omega arith))
 
 -- ---- The updaters of made texts
 

@@ -21,7 +21,7 @@ use Rattle.framed.specs.declared.Text.{Text}
 use Rattle.framed.specs.declared.Value.{Value}
 use Rattle.heap.specs.Closed.{ValueFits}
 use Rattle.heap.specs.Words.{value-of, tag-of, number-of, self-held, program-held, position, end-mark}
-use Rattle.heap.specs.Words.{frame-word, frame-used, slot-count-at, slot-name-at, slot-tag-at, slot-number-at, slot-value-at, text-word, text-used, text-length, text-byte}
+use Rattle.heap.specs.Words.{frame-word, frame-used, slot-count-at, maker-at, slot-name-at, slot-tag-at, slot-number-at, slot-value-at, text-word, text-used, text-length, text-byte}
 use Rattle.heap.specs.Words.{set-self, set-program, set-position, set-end-mark, set-slot-value, add-slot-at, add-slot, take-frame, take-text, set-text-byte}
 
 -- ---- Values
@@ -148,11 +148,15 @@ module _ {h h′ : List ℕ} where
     pub same-frame-used : Same (128 + 51 * g) (129 + 51 * g) h h′ → frame-used h′ g ≡ frame-used h g
     same-frame-used s = frame-used-word h h′ g (same-frame-word s)
 
-    -- the words of a frame but for the first: its slots
+    -- the words of a frame but for the first: its slots and its maker
     module _ (s : Same (129 + 51 * g) (179 + 51 * g) h h′) where
       pub same-count : slot-count-at h′ g ≡ slot-count-at h g
       unfolding slot-count-at
       same-count = s .agree (129 + 51 * g) (omega arith) (omega arith)
+
+      pub same-maker : maker-at h′ g ≡ maker-at h g
+      unfolding maker-at
+      same-maker = s .agree (130 + 51 * g) (omega arith) (omega arith)
 
       pub same-name : (i : ℕ) → i < 16 → slot-name-at h′ g i ≡ slot-name-at h g i
       unfolding slot-name-at
@@ -240,6 +244,10 @@ module _ (h : List ℕ) (f i : ℕ) (v : Value) (size : length h ≡ 16384) (hf 
   unfolding set-slot-value slot-count-at
   set-slot-count = word-other _ _ _ _ _ (omega arith) (word-other _ _ _ _ _ (omega arith) refl)
 
+  pub set-slot-maker : maker-at (set-slot-value h f i v) f ≡ maker-at h f
+  unfolding set-slot-value maker-at
+  set-slot-maker = word-other _ _ _ _ _ (omega arith) (word-other _ _ _ _ _ (omega arith) refl)
+
   pub set-slot-name : (j : ℕ) → j < 16 → slot-name-at (set-slot-value h f i v) f j ≡ slot-name-at h f j
   unfolding set-slot-value slot-name-at
   set-slot-name j hj = word-other _ _ _ _ _ (omega arith) (word-other _ _ _ _ _ (omega arith) refl)
@@ -274,6 +282,10 @@ module _ (h : List ℕ) (f n x : ℕ) (v : Value) (size : length h ≡ 16384) (h
   unfolding add-slot-at set-slot-value slot-count-at
   add-slot-count = word-same _ _ _ (simp set-size (omega arith))
 
+  pub add-slot-maker : maker-at (add-slot-at h f n x v) f ≡ maker-at h f
+  unfolding add-slot-at set-slot-value maker-at
+  add-slot-maker = word-other _ _ _ _ _ (omega arith) (word-other _ _ _ _ _ (omega arith) (word-other _ _ _ _ _ (omega arith) (word-other _ _ _ _ _ (omega arith) refl)))
+
   pub add-slot-name : slot-name-at (add-slot-at h f n x v) f n ≡ x
   unfolding add-slot-at set-slot-value slot-name-at
   add-slot-name = word-other _ _ _ _ _ (omega arith) (word-other _ _ _ _ _ (omega arith) (word-other _ _ _ _ _ (omega arith) (word-same _ _ _ (omega arith))))
@@ -306,23 +318,29 @@ module _ (h : List ℕ) (f n x : ℕ) (v : Value) (size : length h ≡ 16384) (h
   unfolding slot-value-at
   add-slot-old-value j hj = ap₂ value-of (add-slot-old-tag j hj) (add-slot-old-number j hj)
 
--- take_frame, free_frame
-module _ (h : List ℕ) (f : ℕ) (size : length h ≡ 16384) (hf : f < 256) where
-  pub take-frame-local : Local (128 + 51 * f) (179 + 51 * f) h (take-frame h f)
+-- take_frame
+module _ (h : List ℕ) (f m : ℕ) (size : length h ≡ 16384) (hf : f < 256) where
+  pub take-frame-local : Local (128 + 51 * f) (179 + 51 * f) h (take-frame h f m)
   unfolding take-frame
-  take-frame-local = local-trans (local-set _ _ h _ _ (omega arith) (omega arith)) (local-set _ _ _ _ _ (omega arith) (omega arith))
+  take-frame-local =
+      local-trans (local-set _ _ h _ _ (omega arith) (omega arith))
+      (local-trans (local-set _ _ _ _ _ (omega arith) (omega arith)) (local-set _ _ _ _ _ (omega arith) (omega arith)))
 
-  pub take-frame-word : frame-word (take-frame h f) f ≡ 1
+  pub take-frame-word : frame-word (take-frame h f m) f ≡ 1
   unfolding take-frame frame-word
-  take-frame-word = word-other _ _ _ _ _ (omega arith) (word-same _ _ _ (omega arith))
+  take-frame-word = word-other _ _ _ _ _ (omega arith) (word-other _ _ _ _ _ (omega arith) (word-same _ _ _ (omega arith)))
 
-  pub take-frame-used : frame-used (take-frame h f) f ≡ true
+  pub take-frame-used : frame-used (take-frame h f m) f ≡ true
   unfolding frame-used
   take-frame-used = ap (λ (n : ℕ). eqb n 1) take-frame-word
 
-  pub take-frame-count : slot-count-at (take-frame h f) f ≡ 0
+  pub take-frame-count : slot-count-at (take-frame h f m) f ≡ 0
   unfolding take-frame slot-count-at
-  take-frame-count = word-same _ _ _ (simp set-size (omega arith))
+  take-frame-count = word-other _ _ _ _ _ (omega arith) (word-same _ _ _ (simp set-size (omega arith)))
+
+  pub take-frame-maker : maker-at (take-frame h f m) f ≡ m
+  unfolding take-frame maker-at
+  take-frame-maker = word-same _ _ _ (simp set-size (omega arith))
 
 -- ---- Made texts
 

@@ -4,7 +4,7 @@ use Prim.Native.Nat.{ℕ}
 use mathlib.Core.List.{List, []}
 use Rattle.words.specs.Words.{pick}
 use Rattle.framed.specs.Values.{Slot, Frame, Heap, new-frame}
-use Rattle.heap.specs.Words.{frame-used, slot-count-at, slot-name-at, slot-value-at, text-used, text-length, text-byte}
+use Rattle.heap.specs.Words.{frame-used, maker-at, slot-count-at, slot-name-at, slot-value-at, text-used, text-length, text-byte}
 use Rattle.heap.specs.Lists.{listed, passing}
 
 unfoldable pub slot-held : List ℕ → ℕ → ℕ → Slot
@@ -15,7 +15,7 @@ unfoldable pub slots-held : List ℕ → ℕ → List Slot
 slots-held h f = listed (slot-held h f) (slot-count-at h f)
 
 unfoldable pub frame-held : List ℕ → ℕ → Frame
-frame-held h f = new-frame (pick (frame-used h f) (slots-held h f) [])
+frame-held h f = new-frame (pick (frame-used h f) (maker-at h f) 0) (pick (frame-used h f) (slots-held h f) [])
 
 -- the bytes of made text k: none where it is not in use
 unfoldable pub text-held : List ℕ → List ℕ → ℕ → List ℕ

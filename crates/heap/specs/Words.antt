@@ -74,6 +74,10 @@ frame-used h f = eqb (frame-word h f) 1
 unfoldable pub slot-count-at : List ℕ → ℕ → ℕ
 slot-count-at h f = word h (129 + 51 * f)
 
+-- the number of the instruction that made it, 0 where it was made at loading
+unfoldable pub maker-at : List ℕ → ℕ → ℕ
+maker-at h f = word h (130 + 51 * f)
+
 unfoldable pub slot-name-at : List ℕ → ℕ → ℕ → ℕ
 slot-name-at h f i = word h (131 + 51 * f + 3 * i)
 
@@ -98,9 +102,9 @@ add-slot-at h f n x v = set-word (set-slot-value (set-word h (131 + 51 * f + 3 *
 unfoldable pub add-slot : List ℕ → ℕ → ℕ → Value → List ℕ
 add-slot h f x v = pick (leb 16 (slot-count-at h f)) h (add-slot-at h f (slot-count-at h f) x v)
 
--- in use, with no slots
-unfoldable pub take-frame : List ℕ → ℕ → List ℕ
-take-frame h f = set-word (set-word h (128 + 51 * f) 1) (129 + 51 * f) 0
+-- in use, with no slots, of the maker m
+unfoldable pub take-frame : List ℕ → ℕ → ℕ → List ℕ
+take-frame h f m = set-word (set-word (set-word h (128 + 51 * f) 1) (129 + 51 * f) 0) (130 + 51 * f) m
 
 unfoldable pub free-frame : List ℕ → ℕ → List ℕ
 free-frame h f = set-word h (128 + 51 * f) 0

@@ -4,7 +4,7 @@ use framed::Value;
 ghost use mathlib.Core.Path.{_≡_};
 ghost use lib.ListN.{length};
 ghost use Rattle.heap.specs.Words.{value-of, tag-of, number-of, self-held, program-held, position, end-mark};
-ghost use Rattle.heap.specs.Words.{frame-word, frame-used, slot-count-at, slot-name-at, slot-tag-at, slot-number-at, slot-value-at};
+ghost use Rattle.heap.specs.Words.{frame-word, frame-used, slot-count-at, maker-at, slot-name-at, slot-tag-at, slot-number-at, slot-value-at};
 ghost use Rattle.heap.specs.Words.{text-word, text-used, text-length, text-byte};
 ghost use Rattle.heap.specs.Words.{set-self, set-program, set-position, set-end-mark, set-slot-value, add-slot, take-frame, free-frame};
 ghost use Rattle.heap.specs.Words.{take-text, free-text};
@@ -133,6 +133,13 @@ pub fn slot_count(h: &[u32], f: u32) -> u32
     words::word(h, 129 + 51 * words::wide(f))
 }
 
+// The number of the instruction that made it: 1 + its place, 0 where it was made at loading.
+pub fn maker(h: &[u32], f: u32) -> u32
+    ensures { λ r. ⌜ r ≡ maker-at (now (h .entry)) f ⌝ }
+{
+    words::word(h, 130 + 51 * words::wide(f))
+}
+
 pub fn slot_name(h: &[u32], f: u32, i: u32) -> u32
     ensures { λ r. ⌜ r ≡ slot-name-at (now (h .entry)) f i ⌝ }
 {
@@ -181,12 +188,13 @@ pub fn add_slot(h: &mut [u32], f: u32, name: u32, v: Value)
     words::set_word(h, 129 + 51 * words::wide(f), n + 1);
 }
 
-// In use, with no slots.
-pub fn take_frame(h: &mut [u32], f: u32)
-    ensures { λ _. ⌜ now (h .exit) ≡ take-frame (now (h .entry)) f ⌝ }
+// In use, with no slots, of the maker m.
+pub fn take_frame(h: &mut [u32], f: u32, m: u32)
+    ensures { λ _. ⌜ now (h .exit) ≡ take-frame (now (h .entry)) f m ⌝ }
 {
     words::set_word(h, 128 + 51 * words::wide(f), 1);
     words::set_word(h, 129 + 51 * words::wide(f), 0);
+    words::set_word(h, 130 + 51 * words::wide(f), m);
 }
 
 pub fn free_frame(h: &mut [u32], f: u32)

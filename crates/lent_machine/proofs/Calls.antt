@@ -21,6 +21,7 @@ use Rattle.bounded.specs.Bounded.{Bounded, Session, calls, collected, state-of,
 use Rattle.bounded.specs.Bounded as bounded
 use Rattle.bounded.specs.Theorems as theorems
 use Rattle.bounded.proofs.Theorems.{bounded-calls, alike-after-calls}
+use Rattle.bounded.proofs.Makers.{makers-alike}
 use Rattle.word_store.specs.Store as store
 use Rattle.word_store.specs.Store.{word-store}
 use Rattle.running.specs.Running.{bounded-held, bounded-run, BoundedForm}
@@ -140,13 +141,17 @@ module _ (others : OtherCalls) where
     state-is : state-of word-store (calls-from m (fed cs) (bounded-in m) .state) ≡ state-held (m′ .program) (m′ .heap) (m′ .text)
     state-is = ap (state-of word-store) (sym (f .state)) ∙ same-state (m′ .program) (m′ .heap) (m′ .text)
 
+    states-alike : Alike (C.calls (q m w) (frame-limit (m .program)) (text-limit (m .program)) (fed cs) (at-start (q m w)) .machine .state) (state-held (m′ .program) (m′ .heap) (m′ .text))
+    states-alike = subst (Alike _) state-is (A .states)
+
     pub after-calls : AlikeAfter M (q m w) (frame-limit (m .program)) (text-limit (m .program)) (lent-reports M m cs) m′
         (C.calls (q m w) (frame-limit (m .program)) (text-limit (m .program)) (fed cs) (at-start (q m w)))
     after-calls = record {
       reports = f .reports ∙ A .reports;
       steps = ap steps-in (f .reports) ∙ A .steps;
       bytes = ap bytes-in (f .reports) ∙ A .bytes;
-      states = subst (Alike _) state-is (A .states);
+      states = states-alike;
+      makers = makers-alike _ _ states-alike;
       ends-stand = λ e lo hi.
           let x = A .ends-stand e lo hi in
           let y = ap (λ (z : State). z .end-mark) state-is in

@@ -7,7 +7,7 @@ use Rattle.framed.specs.declared.LookAnswer.{LookAnswer}
 use Rattle.framed.specs.Machine.{start}
 use Rattle.framed.specs.Program.{Program, program}
 use Rattle.framed.specs.Alike.{Alike}
-use Rattle.framed.specs.Demands.{Memories, Loading, Running, Collecting, Writing, LentMachine}
+use Rattle.framed.specs.Demands.{Memories, Loading, Running, Collecting, Writing, Counting, LentMachine}
 use Rattle.tables.specs.Fields.{frame-limit, text-limit}
 use Rattle.trees.specs.Held.{program-held}
 use Rattle.heap.specs.Words.{end-mark}
@@ -40,6 +40,7 @@ pub record OtherCalls : Type 0 where
   pub look : Memories → List ℕ → LookAnswer
   pub look-text : Memories → List ℕ → List ℕ
   pub write : Memories → List ℕ → Writing
+  pub makers : Memories → List ℕ → Counting
 
 abbrev pub machine-with : OtherCalls → LentMachine
 machine-with others =
@@ -51,6 +52,7 @@ machine-with others =
       look = others .look;
       look-text = others .look-text;
       write = others .write;
+      makers = others .makers;
       program-in = λ m. program-held (m .program) (m .literal);
       F-in = λ m. frame-limit (m .program);
       T-in = λ m. text-limit (m .program);

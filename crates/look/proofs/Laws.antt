@@ -9,6 +9,7 @@ use denote.Ref.{RefT}
 use Rattle.framed.specs.declared.LookAnswer.{LookAnswer}
 use Rattle.framed.specs.declared.Text.{Text}
 use Rattle.framed.specs.declared.Value.{Value}
+use Rattle.heap.specs.Words.{maker-at}
 use Rattle.heap.specs.Held.{heap-held}
 use Rattle.trees.specs.Held.{program-held}
 use Rattle.wellformed.specs.WellFormed.{WellFormed, well-formed}
@@ -24,33 +25,33 @@ use Rattle.look.proofs.Means.{look-is-fetch, part-in, look-text-is-fetc
 
 -- ---- kind_answer, answer
 
-module _ (v : Value) where
-  pub kind-integer : (z a : ℤ) → v ≡ Value.Int z → a ≡ z → LookAnswer.Integer a ≡ kind-answer v
+module _ (h : List ℕ) (v : Value) where
+  pub kind-integer : (z a : ℤ) → v ≡ Value.Int z → a ≡ z → LookAnswer.Integer a ≡ kind-answer h v
   unfolding kind-answer
   kind-integer z a e ea = rw (e, ea)
 
-  pub kind-text : (x : Text) → v ≡ Value.Text x → LookAnswer.Text ≡ kind-answer v
+  pub kind-text : (x : Text) → v ≡ Value.Text x → LookAnswer.Text ≡ kind-answer h v
   unfolding kind-answer
   kind-text x e = rw e
 
-  pub kind-code : (k : ℕ) → v ≡ Value.Code k → LookAnswer.Code ≡ kind-answer v
+  pub kind-code : (k : ℕ) → v ≡ Value.Code k → LookAnswer.Code ≡ kind-answer h v
   unfolding kind-answer
   kind-code k e = rw e
 
-  pub kind-frame : (f : ℕ) → v ≡ Value.Frame f → LookAnswer.Frame ≡ kind-answer v
+  pub kind-frame : (f m : ℕ) → v ≡ Value.Frame f → m ≡ maker-at h f → LookAnswer.Frame m ≡ kind-answer h v
   unfolding kind-answer
-  kind-frame f e = rw e
+  kind-frame f m e em = rw (e, em)
 
-module _ (x : Resolved) where
-  pub answer-found : (v : Value) (r : LookAnswer) → x ≡ Resolved.Found v → r ≡ kind-answer v → r ≡ answer x
+module _ (h : List ℕ) (x : Resolved) where
+  pub answer-found : (v : Value) (r : LookAnswer) → x ≡ Resolved.Found v → r ≡ kind-answer h v → r ≡ answer h x
   unfolding answer
   answer-found v r e er = rw (e, er)
 
-  pub answer-undefined : x ≡ Resolved.Undefined → LookAnswer.Undefined ≡ answer x
+  pub answer-undefined : x ≡ Resolved.Undefined → LookAnswer.Undefined ≡ answer h x
   unfolding answer
   answer-undefined e = rw e
 
-  pub answer-not-path : x ≡ Resolved.NotPath → LookAnswer.NotPath ≡ answer x
+  pub answer-not-path : x ≡ Resolved.NotPath → LookAnswer.NotPath ≡ answer h x
   unfolding answer
   answer-not-path e = rw e
 
@@ -66,7 +67,7 @@ module _ (p h l t path : List ℕ) (b : Bool) (eb : b ≡ well-formed p h l t) w
   unfolding look-call
   look-refused e = rw (← eb, not-true b e)
 
-  pub look-answered : (x : Resolved) (r : LookAnswer) → not b ≡ false → Resolves p h path x → r ≡ answer x → r ≡ look-call p h l t path
+  pub look-answered : (x : Resolved) (r : LookAnswer) → not b ≡ false → Resolves p h path x → r ≡ answer h x → r ≡ look-call p h l t path
   unfolding look-call
   look-answered x r e f er = rw (← eb, not-false b e, er, held p h l t path x f)
 

@@ -1,3 +1,4 @@
+pub mod Found
 pub mod Means
 pub mod Lacked
 pub mod Laws

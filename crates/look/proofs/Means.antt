@@ -19,12 +19,12 @@ use Rattle.framed.specs.Tree.{Written}
 use Rattle.framed.specs.Program.{Program}
 use Rattle.framed.specs.Values.{text-bytes}
 use Rattle.framed.specs.Machine.{State}
-use Rattle.framed.specs.Calls.{read-path, look-from, kind, look, text-in, look-text, LooksAs, LooksTextAs}
+use Rattle.framed.specs.Calls.{read-path, look-from, maker-in, kind, look, text-in, look-text, LooksAs, LooksTextAs}
 use Rattle.framed.proofs.LookJudged.{look-judged}
 use Rattle.words.specs.Words.{pick}
 use Rattle.tables.specs.Fields.{literals, literal-length}
-use Rattle.heap.specs.Words.{text-length}
-use Rattle.heap.specs.Held.{heap-held, texts-held}
+use Rattle.heap.specs.Words.{maker-at, text-length}
+use Rattle.heap.specs.Held.{frames-held, heap-held, texts-held}
 use Rattle.texts.specs.Literals.{literals-held}
 use Rattle.texts.specs.Texts.{part-of, LiteralsInside, TextsInside}
 use Rattle.texts.proofs.Laws as texts
@@ -40,6 +40,7 @@ use Rattle.look_path.specs.Resolve.{found, reached, resolved}
 use Rattle.look_part.specs.declared.Part.{Part}
 use Rattle.look_part.specs.Part.{no-part, literal-part, made-part, text-part, value-part, part-found, bytes-in, InMemory}
 use Rattle.look.specs.Look.{kind-answer, answer, look-call, look-part, look-bytes, LookIsFetch, LookTextIsFetch}
+use Rattle.look.proofs.Found.{found-maker}
 
 -- memories are well-formed exactly where the test says so
 test-false : (p h l t : List ℕ) → ¬ WellFormed p h l t → well-formed p h l t ≡ false
@@ -51,24 +52,27 @@ test-false p h l t n = go (well-formed p h l t) refl
 
 -- ---- Look
 
-kind-word : (v : Value) → look-word (kind-answer v) ≡ kind v
+kind-word : (h : List ℕ) (v : Value) → ((f : ℕ) → v ≡ Value.Frame f → maker-in (frames-held h) f ≡ maker-at h f) → look-word (kind-answer h v) ≡ kind (frames-held h) v
 unfolding kind-answer kind
-kind-word (Value.Int z) = refl
-kind-word (Value.Text x) = refl
-kind-word (Value.Code k) = refl
-kind-word (Value.Frame f) = refl
+kind-word h (Value.Int z) m = refl
+kind-word h (Value.Text x) m = refl
+kind-word h (Value.Code k) m = refl
+kind-word h (Value.Frame f) m = ap Look.frame (sym (m f refl))
 
-answer-word : (p : Program) (s : State) (text : List ℕ) → look-word (answer (resolved p s text)) ≡ look p s text
-unfolding resolved look reached answer found
-answer-word p s text = go (read-path p (tokens class text))
+answer-word : (p h l t text : List ℕ) → WellFormed p h l t → look-word (answer h (resolved (program-held p l) (state-held p h t) text)) ≡ look (program-held p l) (state-held p h t) text
+unfolding resolved look reached answer found state-held heap-held
+answer-word p h l t text formed = go (read-path (program-held p l) (tokens class text))
   where
-    value : (o : Option Value) → look-word (answer (found o)) ≡ (elim o [ none ↦ Look.refused 22 | some v ↦ kind v ])
-    value none = refl
-    value (some v) = kind-word v
+    value : (w : Written) (o : Option Value) → look-from (state-held p h t) w ≡ o →
+        look-word (answer h (found o)) ≡ (elim o [ none ↦ Look.refused 22 | some v ↦ kind (frames-held h) v ])
+    value w none e = refl
+    value w (some v) e = kind-word h v (λ f q. found-maker p h l t formed w f (e ∙ ap some q))
 
-    go : (o : Option Written) → look-word (answer (reached s o)) ≡ (elim o [ none ↦ Look.refused 21 | some w ↦ elim (look-from s w) [ none ↦ Look.refused 22 | some v ↦ kind v ] ])
+    go : (o : Option Written) →
+        look-word (answer h (reached (state-held p h t) o))
+        ≡ (elim o [ none ↦ Look.refused 21 | some w ↦ elim (look-from (state-held p h t) w) [ none ↦ Look.refused 22 | some v ↦ kind (frames-held h) v ] ])
     go none = refl
-    go (some w) = value (look-from s w)
+    go (some w) = value w (look-from (state-held p h t) w) refl
 
 pub look-is-fetch : LookIsFetch
 unfolding look-call
@@ -79,7 +83,7 @@ look-is-fetch p h l t path = record {
 }
   where
     same : WellFormed p h l t → look-word (look-call p h l t path) ≡ look (program-held p l) (state-held p h t) path
-    same w = rw (well-formed-decides p h l t .1 w) (answer-word (program-held p l) (state-held p h t) path)
+    same w = rw (well-formed-decides p h l t .1 w) (answer-word p h l t path w)
 
 -- ---- The companion
 

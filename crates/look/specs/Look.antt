@@ -15,6 +15,7 @@ use Rattle.framed.specs.Tokens.{tokens}
 use Rattle.framed.specs.Tree.{Written}
 use Rattle.framed.specs.Calls.{read-path, look, look-text, look-names, LooksAs, LooksTextAs}
 use Rattle.words.specs.Words.{pick}
+use Rattle.heap.specs.Words.{maker-at}
 use Rattle.tables.specs.Fields.{names}
 use Rattle.trees.specs.Held.{program-held}
 use Rattle.wellformed.specs.WellFormed.{WellFormed, well-formed}
@@ -26,21 +27,22 @@ use Rattle.look_part.specs.Part.{no-part, part-found, bytes-in}
 
 -- ---- Look
 
-unfoldable pub kind-answer : Value → LookAnswer
-kind-answer (Value.Int z) = LookAnswer.Integer z
-kind-answer (Value.Text x) = LookAnswer.Text
-kind-answer (Value.Code k) = LookAnswer.Code
-kind-answer (Value.Frame f) = LookAnswer.Frame
+-- for a frame with its maker
+unfoldable pub kind-answer : List ℕ → Value → LookAnswer
+kind-answer h (Value.Int z) = LookAnswer.Integer z
+kind-answer h (Value.Text x) = LookAnswer.Text
+kind-answer h (Value.Code k) = LookAnswer.Code
+kind-answer h (Value.Frame f) = LookAnswer.Frame (maker-at h f)
 
 -- 21 where the text is not such a path, 22 where Fetch is undefined
-unfoldable pub answer : Resolved → LookAnswer
-answer (Resolved.Found v) = kind-answer v
-answer Resolved.Undefined = LookAnswer.Undefined
-answer Resolved.NotPath = LookAnswer.NotPath
+unfoldable pub answer : List ℕ → Resolved → LookAnswer
+answer h (Resolved.Found v) = kind-answer h v
+answer h Resolved.Undefined = LookAnswer.Undefined
+answer h Resolved.NotPath = LookAnswer.NotPath
 
 -- 20 first
 unfoldable pub look-call : (p h l t path : List ℕ) → LookAnswer
-look-call p h l t path = pick (well-formed p h l t) (answer (resolved (program-held p l) (state-held p h t) path)) LookAnswer.NotWellFormed
+look-call p h l t path = pick (well-formed p h l t) (answer h (resolved (program-held p l) (state-held p h t) path)) LookAnswer.NotWellFormed
 
 pub record LookMeans (p h l t path : List ℕ) (r : LookAnswer) : Type 0 where
   pub refused : ¬ WellFormed p h l t → r ≡ LookAnswer.NotWellFormed

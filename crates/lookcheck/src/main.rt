@@ -81,7 +81,10 @@ fn write_answer(a: LookAnswer) {
         }
         LookAnswer::Text => print_output::put(b"text"),
         LookAnswer::Code => print_output::put(b"code"),
-        LookAnswer::Frame => print_output::put(b"frame"),
+        LookAnswer::Frame(maker) => {
+            print_output::put(b"frame maker ");
+            print_output::put_number(maker);
+        }
         LookAnswer::NotWellFormed => print_output::put(b"20"),
         LookAnswer::NotPath => print_output::put(b"21"),
         LookAnswer::Undefined => print_output::put(b"22"),

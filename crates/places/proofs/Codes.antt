@@ -7,6 +7,7 @@ use native.Mathlib.Decide.{decLe}
 use lib.ListN.{getD}
 use borrow.Author.Tests.{le-leb, lt-leb}
 use Rattle.framed.specs.Tree.{Code}
+use Rattle.framed.specs.Machine.{first-of}
 use Rattle.tables.specs.Fields.{codes, code-first, instructions, instruction-after}
 use Rattle.program_form.specs.WellFormed.{WellFormed}
 use Rattle.program_form.specs.Sound.{Sound}
@@ -44,6 +45,15 @@ module _ (p l : List ℕ) (w : WellFormed p l) where
       go : Dec (codes p ≤ k) → remaining p (first-place p k) ≡ getD (trees.program-held p l .codes) k Code.finished
       go (yes le) = rw (le-leb (codes p) k le) (one .finished ∙ sym (list-past (λ k. remaining p (code-first p k)) Code.finished (codes p) 0 k le))
       go (no lt) = rw (lt-leb (codes p) k (omega arith)) (sym (one .code k (omega arith)))
+
+  -- it is the number of the code's first instruction
+  pub place-begins : (k : ℕ) → first-place p k ≡ first-of (trees.program-held p l) k
+  unfolding first-place trees.program-held first-of
+  place-begins k = go (decLe (codes p) k)
+    where
+      go : Dec (codes p ≤ k) → first-place p k ≡ first-of (trees.program-held p l) k
+      go (yes le) = rw (le-leb (codes p) k le) (sym (list-past (code-first p) 0 (codes p) 0 k le))
+      go (no lt) = rw (lt-leb (codes p) k (omega arith)) (sym (one .code-begins k (omega arith)))
 
   pub place-small : (k : ℕ) → first-place p k ≤ instructions p
   unfolding first-place

@@ -3,7 +3,7 @@ use mathlib.Core.Path.{_≡_, refl, _∙_, ap, sym, subst}
 use mathlib.Core.Bool.{true, false}
 use mathlib.Core.Logic.{⊎-elim}
 use mathlib.Core.List.{List, [], List·Memᴰ, List·Memᴰ·not-nil, List·Memᴰ·cases-cons}
-use Prim.Native.Nat.{ℕ, zero, suc, _+_, _^_, _≤_, _<_}
+use Prim.Native.Nat.{ℕ, zero, suc, pred, _+_, _^_, _≤_, _<_}
 use native.Mathlib.Omega.{arith}
 use native.Mathlib.Decide.{decLt}
 use lib.Signed.{mag}
@@ -20,6 +20,7 @@ use Rattle.framed.specs.Tree.{Slots, Code}
 use Rattle.framed.specs.Paths.{Path, names-of}
 use Rattle.framed.specs.Meaning.{slot-names}
 use Rattle.framed.specs.Program.{Program}
+use Rattle.framed.specs.Machine.{following, first-of}
 use Rattle.tables.specs.declared.ExpressionEntry.{ExpressionEntry}
 use Rattle.tables.specs.declared.InstructionEntry.{InstructionEntry}
 use Rattle.tables.specs.Entries.{expression-at, instruction-at}
@@ -31,7 +32,9 @@ use Rattle.program_form.specs.Sound.{SlotPlace, Sound}
 use Rattle.program_form.proofs.Decides.{sound}
 use Rattle.trees.specs.Trees.{base-tree, expression-tree, instruction-tree, path-list}
 use Rattle.trees.specs.Held.{base-held, expression-held, slots-held, instruction-held, remaining, held, list-from, literal-bytes, program-held, OneLevel}
-use Rattle.trees.proofs.Held.{list-length, one-level-held}
+use Rattle.trees.proofs.Held.{list-get, list-length, one-level-held}
+use Rattle.places.specs.Places.{first-place}
+use Rattle.places.proofs.Codes.{code-at, place-begins, place-small, after-small}
 use Rattle.wellformed.specs.WellFormed.{limits}
 use Rattle.bounded.specs.Fits.{NamesFit, BaseFits, ExpressionFits, SlotsFit, InstructionFits, CodeFits, StringBytes}
 use Rattle.word_store.specs.Form.{LimitsOf}
@@ -57,6 +60,7 @@ module _ (p l : List ℕ) (w : WellFormed p l) where
     names = sym (list-length _ (names p) 0);
     literals = sym (list-length _ (literals p) 0);
     codes = sym (list-length _ (codes p) 0);
+    instructions = sym (list-length _ (instructions p) 0);
   }
 
   names-are : length (q .names) ≡ names p
@@ -70,6 +74,10 @@ module _ (p l : List ℕ) (w : WellFormed p l) where
   codes-are : length (q .codes) ≡ codes p
   unfolding program-held list-from
   codes-are = list-length _ (codes p) 0
+
+  instructions-are : length (q .instructions) ≡ instructions p
+  unfolding program-held list-from
+  instructions-are = list-length _ (instructions p) 0
 
   -- ---- Bases
 
@@ -220,6 +228,19 @@ module _ (p l : List ℕ) (w : WellFormed p l) where
   remaining-fits : (i : ℕ) → i ≤ instructions p → CodeFits q (remaining p i)
   remaining-fits i le = code-fits (suc (instructions p)) i le (omega arith)
 
+  -- ---- The numbers of instructions: 0, or that of one that is there
+
+  firsts-fit : (k : ℕ) → first-of q k ≤ length (q .instructions)
+  firsts-fit k = rw (instructions-are, ← place-begins p l w k) (place-small p l w k)
+
+  nexts-fit : (n : ℕ) → following q n ≤ length (q .instructions)
+  unfolding following program-held
+  nexts-fit n = rw instructions-are (go (decLt (pred n) (instructions p)))
+    where
+      go : Dec (pred n < instructions p) → getD (list-from (instruction-after p) (instructions p) 0) (pred n) 0 ≤ instructions p
+      go (yes lt) = rw (list-get (instruction-after p) 0 (instructions p) 0 (pred n) lt) (after-small p l w (0 + pred n) (omega arith))
+      go (no ge) = rw (List·getD-eq-default (list-from (instruction-after p) (instructions p) 0) 0 {n = pred n} (let e = list-length (instruction-after p) (instructions p) 0 in omega arith)) (omega arith)
+
   -- ---- Literals
 
   -- what every value of a function has, every member of its list has
@@ -244,19 +265,11 @@ module _ (p l : List ℕ) (w : WellFormed p l) where
           none i = absurd (List·Memᴰ·not-nil i)
 
   code-fits-at : (k : ℕ) → CodeFits q (getD (q .codes) k Code.finished)
-  code-fits-at k = go (decLt k (codes p))
-    where
-      go : Dec (k < codes p) → CodeFits q (getD (q .codes) k Code.finished)
-      go (yes lt) = subst (CodeFits q) (sym (O .code k lt)) (first (code-first p k) refl)
-        where
-          first : (z : ℕ) → code-first p k ≡ z → CodeFits q (remaining p z)
-          first zero e = remaining-fits 0 (omega arith)
-          first (suc i) e = remaining-fits (suc i) (G .first-there k i lt e)
-      go (no ge) = subst (CodeFits q) (sym (List·getD-eq-default (q .codes) Code.finished (let e = codes-are in omega arith))) tt
+  code-fits-at k = subst (CodeFits q) (code-at p l w k) (remaining-fits (first-place p k) (place-small p l w k))
 
 pub well-formed-fits : WellFormedFits
 well-formed-fits p l w = record {
-  program = record { literals = literal-fits p l w; codes = code-fits-at p l w };
+  program = record { literals = literal-fits p l w; codes = code-fits-at p l w; firsts = firsts-fit p l w; nexts = nexts-fit p l w };
   remaining = remaining-fits p l w;
   limits = limits-of p l w;
 }

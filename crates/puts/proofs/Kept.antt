@@ -11,7 +11,7 @@ use Rattle.framed.specs.declared.Value.{Value}
 use Rattle.framed.specs.Values.{Slot, new-frame}
 use Rattle.framed.specs.Machine.{set-slot}
 use Rattle.bounded.specs.Check.{has-place}
-use Rattle.heap.specs.Words.{frame-used, slot-count-at, slot-name-at, set-slot-value, add-slot}
+use Rattle.heap.specs.Words.{frame-used, slot-count-at, maker-at, slot-name-at, set-slot-value, add-slot}
 use Rattle.heap.specs.Held.{slot-held, slots-held, frames-held, frames-in-use}
 use Rattle.heap.specs.Closed.{Sized, ValueFits}
 use Rattle.heap.proofs.Held.{SameTexts, SameHeader, set-slot-frames, set-slot-in-use, set-slot-texts, set-slot-header}
@@ -35,14 +35,14 @@ module _ (h : List ℕ) (f x : ℕ) (v : Value) where
   put-case : (P : List ℕ → Type 0) → ((i : ℕ) → Hit (slots-held h f) x i → P (set-slot-value h f i v)) → (Miss (slots-held h f) x → P (add-slot h f x v)) → P (put-slot h f x v)
   put-case P a b = by-found P (slot-from (slots-held h f) x 0) refl a b
 
-  has-room : has-place (new-frame (slots-held h f)) x ≡ true → Miss (slots-held h f) x → slot-count-at h f < 16
+  has-room : has-place (new-frame (maker-at h f) (slots-held h f)) x ≡ true → Miss (slots-held h f) x → slot-count-at h f < 16
   has-room ok m = go (decLt (slot-count-at h f) 16)
     where
       go : Dec (slot-count-at h f < 16) → slot-count-at h f < 16
       go (yes l) = l
-      go (no n) = absurd (true≢false (sym ok ∙ place-none (slots-held h f) x (m .value) ∙ le-ltb (length (slots-held h f)) 16 (let l = slots-length h f in omega arith)))
+      go (no n) = absurd (true≢false (sym ok ∙ place-none (maker-at h f) (slots-held h f) x (m .value) ∙ le-ltb (length (slots-held h f)) 16 (let l = slots-length h f in omega arith)))
 
-  module _ (s : Sized h) (hf : f < 256) (u : frame-used h f ≡ true) (ok : has-place (new-frame (slots-held h f)) x ≡ true) where
+  module _ (s : Sized h) (hf : f < 256) (u : frame-used h f ≡ true) (ok : has-place (new-frame (maker-at h f) (slots-held h f)) x ≡ true) where
     inside : (i : ℕ) → Hit (slots-held h f) x i → i < slot-count-at h f
     inside i a = let b = a .below in let l = slots-length h f in omega arith
 
@@ -50,9 +50,9 @@ module _ (h : List ℕ) (f x : ℕ) (v : Value) where
     unfolding slot-held
     named i a = sym (ap (λ (q : Slot). q .name) (slot-at h f i (slot-held h f i) (inside i a))) ∙ a .name (slot-held h f i)
 
-    pub put-frames : ValueFits v → frames-held (put-slot h f x v) ≡ set (frames-held h) f (new-frame (set-slot (slots-held h f) x v))
+    pub put-frames : ValueFits v → frames-held (put-slot h f x v) ≡ set (frames-held h) f (new-frame (maker-at h f) (set-slot (slots-held h f) x v))
     put-frames vf =
-        put-case (λ k. frames-held k ≡ set (frames-held h) f (new-frame (set-slot (slots-held h f) x v)))
+        put-case (λ k. frames-held k ≡ set (frames-held h) f (new-frame (maker-at h f) (set-slot (slots-held h f) x v)))
         (λ i a. rw (a .put v) (rw (named i a) at (set-slot-frames h s f hf u i v (inside i a) vf)))
         (λ m. rw (m .put v) (add-slot-frames h s f hf u x v (has-room ok m) vf))
 

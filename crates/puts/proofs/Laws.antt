@@ -20,7 +20,7 @@ use Rattle.framed.specs.Machine.{Result, gives, defined, frame-number, holds}
 use Rattle.framed.specs.Machine as machine
 use Rattle.bounded.specs.Check.{Target, target, has-place, slot-end, target-end}
 use Rattle.tables.specs.Fields.{path-name}
-use Rattle.heap.specs.Words.{frame-used, slot-count-at, set-slot-value, add-slot}
+use Rattle.heap.specs.Words.{frame-used, slot-count-at, maker-at, set-slot-value, add-slot}
 use Rattle.heap.specs.Lists.{listed}
 use Rattle.heap.specs.Held.{slot-held, slots-held, frames-held}
 use Rattle.heap.proofs.Lists.{elem-past}
@@ -112,20 +112,20 @@ module _ (h p : List ℕ) (root : Value) (j n : ℕ) where
 -- ---- slot_end, put_end
 
 -- the place that a name has, by what Fetch finds
-module _ (ss : List Slot) (x : ℕ) where
-  held-some : (v : Value) → in-slots ss x ≡ some v → holds (new-frame ss) x ≡ true
+module _ (m : ℕ) (ss : List Slot) (x : ℕ) where
+  held-some : (v : Value) → in-slots ss x ≡ some v → holds (new-frame m ss) x ≡ true
   unfolding holds in-frame
   held-some v e = ap (λ (o : Option Value). elim o [ none ↦ false | some w ↦ true ]) e
 
-  held-none : in-slots ss x ≡ none → holds (new-frame ss) x ≡ false
+  held-none : in-slots ss x ≡ none → holds (new-frame m ss) x ≡ false
   unfolding holds in-frame
   held-none e = ap (λ (o : Option Value). elim o [ none ↦ false | some w ↦ true ]) e
 
-  place-found : (v : Value) → in-slots ss x ≡ some v → has-place (new-frame ss) x ≡ true
+  place-found : (v : Value) → in-slots ss x ≡ some v → has-place (new-frame m ss) x ≡ true
   unfolding has-place
   place-found v e = rw (held-some v e)
 
-  pub place-none : in-slots ss x ≡ none → has-place (new-frame ss) x ≡ ltb (length ss) 16
+  pub place-none : in-slots ss x ≡ none → has-place (new-frame m ss) x ≡ ltb (length ss) 16
   unfolding has-place
   place-none e = rw (held-none e)
 
@@ -140,9 +140,9 @@ module _ (h : List ℕ) (f x : ℕ) where
     end-free e = rw (frame-found h f lt, frame-of-free h f (sym eb ∙ not-true b e))
 
     module _ (u : not b ≡ false) (r : SlotFound) (er : r ≡ slot-from (slots-held h f) x 0) where
-      end-used : slot-end (getElem? (frames-held h) f) x ≡ pick {A = ℕ} (has-place (new-frame (slots-held h f)) x) 0 35
+      end-used : slot-end (getElem? (frames-held h) f) x ≡ pick {A = ℕ} (has-place (new-frame (maker-at h f) (slots-held h f)) x) 0 35
       unfolding slot-end
-      end-used = rw (frame-found h f lt, frame-of-used h f (sym eb ∙ not-false b u)) (go (has-place (new-frame (slots-held h f)) x))
+      end-used = rw (frame-found h f lt, frame-of-used h f (sym eb ∙ not-false b u)) (go (has-place (new-frame (maker-at h f) (slots-held h f)) x))
         where
           go : (b : Bool) → _≡_ {A = ℕ} (if b then 0 else 35) (pick b 0 35)
           go true = refl
@@ -151,16 +151,16 @@ module _ (h : List ℕ) (f x : ℕ) where
       pub end-found : OneOf (0 ∷ []) (tagOf slot-type r) → 0 ≡ slot-end (getElem? (frames-held h) f) x
       end-found o = rw end-used (go r er o)
         where
-          at : (i : ℕ) → SlotFound.At i ≡ slot-from (slots-held h f) x 0 → _≡_ {A = ℕ} 0 (pick (has-place (new-frame (slots-held h f)) x) 0 35)
-          at i e = rw (place-found (slots-held h f) x _ (slot-hit (slots-held h f) x (SlotFound.At i) e i refl .value (slot-held h f i)))
+          at : (i : ℕ) → SlotFound.At i ≡ slot-from (slots-held h f) x 0 → _≡_ {A = ℕ} 0 (pick (has-place (new-frame (maker-at h f) (slots-held h f)) x) 0 35)
+          at i e = rw (place-found (maker-at h f) (slots-held h f) x _ (slot-hit (slots-held h f) x (SlotFound.At i) e i refl .value (slot-held h f i)))
 
-          go : (q : SlotFound) → q ≡ slot-from (slots-held h f) x 0 → OneOf (0 ∷ []) (tagOf slot-type q) → _≡_ {A = ℕ} 0 (pick (has-place (new-frame (slots-held h f)) x) 0 35)
+          go : (q : SlotFound) → q ≡ slot-from (slots-held h f) x 0 → OneOf (0 ∷ []) (tagOf slot-type q) → _≡_ {A = ℕ} 0 (pick (has-place (new-frame (maker-at h f) (slots-held h f)) x) 0 35)
           go (SlotFound.At i) e k = at i e
           go SlotFound.Missing e k = absurd (miss (0 ∷ []) 1 tt k)
 
       module _ (e : r ≡ SlotFound.Missing) (n : ℕ) (en : n ≡ slot-count-at h f) where
-        place-missing : has-place (new-frame (slots-held h f)) x ≡ ltb n 16
-        place-missing = place-none (slots-held h f) x (slot-miss (slots-held h f) x r er e .value) ∙ ap (λ (m : ℕ). ltb m 16) (slots-length h f ∙ sym en)
+        place-missing : has-place (new-frame (maker-at h f) (slots-held h f)) x ≡ ltb n 16
+        place-missing = place-none (maker-at h f) (slots-held h f) x (slot-miss (slots-held h f) x r er e .value) ∙ ap (λ (m : ℕ). ltb m 16) (slots-length h f ∙ sym en)
 
         pub end-room : n < 16 → 0 ≡ slot-end (getElem? (frames-held h) f) x
         end-room l = rw (end-used, place-missing, lt-ltb n 16 l)

@@ -136,6 +136,12 @@ fn put_text(text: &[u8]) {
     print_output::put(b"\n");
 }
 
+fn put_frame(maker: u32) {
+    print_output::put(b"look frame maker ");
+    print_output::put_number(maker);
+    print_output::put(b"\n");
+}
+
 fn look_call<'a>(
     p: &[u32; 16384],
     h: &[u32; 16384],
@@ -148,7 +154,7 @@ fn look_call<'a>(
         LookAnswer::Integer(n) => put_integer(n),
         LookAnswer::Text => put_text(look::look_text(p, h, l, t, path)),
         LookAnswer::Code => print_output::put(b"look code\n"),
-        LookAnswer::Frame => print_output::put(b"look frame\n"),
+        LookAnswer::Frame(maker) => put_frame(maker),
         _ => put_refused(answers::look_number(answer)),
     }
     true

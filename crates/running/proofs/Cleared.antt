@@ -26,9 +26,9 @@ use Rattle.running.specs.Cleared.{Cleared, ClearedThrough}
 
 -- ---- Operations
 
-claimed : (s : Memories) → Cleared s → Cleared (word-store .claim-frame s)
+claimed : (s : Memories) (m : ℕ) → Cleared s → Cleared (word-store .claim-frame s m)
 unfolding Cleared
-claimed s c = clear-claim-frame (s .heap) ∙ ap claim-frame c
+claimed s m c = clear-claim-frame (s .heap) m ∙ ap (λ (h : List ℕ). claim-frame h m) c
 
 pushed : (s : Memories) (n x : ℕ) (v : Value) → Cleared s → Cleared (word-store .push s n x v)
 unfolding Cleared
@@ -50,17 +50,17 @@ produced (gives (number z)) s c = c
 produced (gives (text bs)) s c = texted s bs c
 produced (ends e) s c = c
 
-module _ (fixed : Constants) (Σ Π : Value) where
+module _ (fixed : Constants) (m : ℕ) (Σ Π : Value) where
   mutual
     unfolding evaluate
 
-    evaluates : (e : Expression Path) (s : Memories) → Cleared s → Cleared (evaluate word-store fixed Σ Π e s .store)
+    evaluates : (e : Expression Path) (s : Memories) → Cleared s → Cleared (evaluate word-store fixed m Σ Π e s .store)
     evaluates (Expression.base b) s c = c
     evaluates (Expression.not b) s c = c
     evaluates (Expression.operation o a b) s c = produced (operation-result fixed Σ Π (heap-in word-store s) o a b) s c
-    evaluates (Expression.frame ss) s c = fills (word-store .next-frame s) ss (word-store .claim-frame s) (claimed s c)
+    evaluates (Expression.frame ss) s c = fills (word-store .next-frame s) ss (word-store .claim-frame s m) (claimed s m c)
 
-    fills : (n : ℕ) (ss : Slots Path) (s : Memories) → Cleared s → Cleared (fill word-store fixed Σ Π n ss s)
+    fills : (n : ℕ) (ss : Slots Path) (s : Memories) → Cleared s → Cleared (fill word-store fixed m Σ Π n ss s)
     fills n Slots.no-slots s c = c
     fills n (Slots.slot x e ss) s c = fills n ss _ (pushed _ n x _ (evaluates e s c))
 
@@ -71,29 +71,29 @@ unfolding assign-at
 put-down (gives t) v s c = assigned s (t .frame) (t .name) v c
 put-down (ends e) v s c = c
 
-assigns : (b : Bounded Memories) (rest : Code Path) (path : Path) (r : Produced Memories) → Cleared (r .store) → Cleared (commit-assign word-store b rest path r .store)
+assigns : (b : Bounded Memories) (rest : Code Path) (m : ℕ) (path : Path) (r : Produced Memories) → Cleared (r .store) → Cleared (commit-assign word-store b rest m path r .store)
 unfolding commit-assign
-assigns b rest (from-self []) r c = c
-assigns b rest (from-self (n ∷ ns)) r c = put-down (target (heap-in word-store (r .store) .frames) (b .self) n ns) (r .value) (r .store) c
-assigns b rest (from-program []) r c = c
-assigns b rest (from-program (n ∷ ns)) r c = put-down (target (heap-in word-store (r .store) .frames) (b .program) n ns) (r .value) (r .store) c
+assigns b rest m (from-self []) r c = c
+assigns b rest m (from-self (n ∷ ns)) r c = put-down (target (heap-in word-store (r .store) .frames) (b .self) n ns) (r .value) (r .store) c
+assigns b rest m (from-program []) r c = c
+assigns b rest m (from-program (n ∷ ns)) r c = put-down (target (heap-in word-store (r .store) .frames) (b .program) n ns) (r .value) (r .store) c
 
-jumps : (b : Bounded Memories) (r : Result Jump) → Cleared (b .store) → Cleared (commit-jump word-store b r .store)
+jumps : (q : Program) (b : Bounded Memories) (r : Result Jump) → Cleared (b .store) → Cleared (commit-jump word-store q b r .store)
 unfolding commit-jump
-jumps b (gives j) c = c
-jumps b (ends e) c = c
+jumps q b (gives j) c = c
+jumps q b (ends e) c = c
 
 module _ (q : Program) (b : Bounded Memories) (rest : Code Path) (c : Cleared (b .store)) where
   committed : (i : Instruction Path) → Cleared (commit word-store q b rest i .store)
   unfolding commit
-  committed (Instruction.assign path e) = assigns b rest path _ (evaluates (constants q) (b .self) (b .program) e (b .store) c)
+  committed (Instruction.assign path e) = assigns b rest _ path _ (evaluates (constants q) (b .next) (b .self) (b .program) e (b .store) c)
   committed (Instruction.show a) = c
-  committed (Instruction.jump a d) = jumps b (jump-result (q .codes) (b .self) (b .program) (heap-in word-store (b .store) .frames) a d) c
+  committed (Instruction.jump a d) = jumps q b (jump-result (b .self) (b .program) (heap-in word-store (b .store) .frames) a d) c
   committed (Instruction.ifeq a d e) = go (truth (value-given (base-value (b .self) (b .program) (heap-in word-store (b .store) .frames) a))) refl
     where
       go : (t : Bool) → truth (value-given (base-value (b .self) (b .program) (heap-in word-store (b .store) .frames) a)) ≡ t → Cleared (commit word-store q b rest (Instruction.ifeq a d e) .store)
       go true is = rw is c
-      go false is = rw is (jumps b (jump-result (q .codes) (b .self) (b .program) (heap-in word-store (b .store) .frames) d e) c)
+      go false is = rw is (jumps q b (jump-result (b .self) (b .program) (heap-in word-store (b .store) .frames) d e) c)
 
 -- ---- Reserve
 

@@ -44,6 +44,7 @@ unfolding state-held memories.state-held view-held
 same-state p h t = λ i.
     record {
       remaining = remaining p (position h);
+      next = position h;
       self = self-held h;
       program = program-value h;
       heap = held-read (remaining p) h t .view i .heap;

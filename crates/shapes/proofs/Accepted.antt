@@ -97,6 +97,8 @@ module _ (ts : List Token) (ss : Slots Written) (k : ℕ) (a : AllShaped ts) (d 
         size = lim .size;
         codes = refl;
         instructions = refl;
+        firsts = refl;
+        nexts = refl;
         start-there = start-below N L (slots-size (resolve-slots program-place ss) .codes) (name-table ts) ss program-place k (step .shaped .1) (omega arith) st;
       }
 

@@ -12,7 +12,7 @@ use Rattle.framed.specs.Tokens.{Operator, in-range}
 use Rattle.framed.specs.Tree.{Base, Expression, Slots, Instruction, Code, _then_}
 use Rattle.framed.specs.Paths.{Path, names-of}
 use Rattle.framed.specs.Meaning.{slot-names}
-use Rattle.framed.specs.Program.{Program, slots-parts, codes-in, instructions-in}
+use Rattle.framed.specs.Program.{Program, slots-parts, codes-in, instructions-in, firsts-in, nexts-in}
 use Rattle.shapes.specs.Numbers.{Numbers, base-size, expression-size, slots-size, instruction-size}
 
 -- every number of the list is below N
@@ -90,4 +90,6 @@ pub record Shaped (q : Program) : Type 0 where
   -- the codes and instructions of the tree, by where each begins
   pub codes : q .codes ≡ codes-in (slots-parts (q .slots))
   pub instructions : q .instructions ≡ instructions-in (slots-parts (q .slots))
+  pub firsts : q .firsts ≡ firsts-in 1 (slots-parts (q .slots))
+  pub nexts : q .nexts ≡ nexts-in 1 (slots-parts (q .slots))
   pub start-there : q .start < slots-size (q .slots) .codes

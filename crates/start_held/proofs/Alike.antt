@@ -33,6 +33,7 @@ frame-same (some f) = ap (λ (ss : List Slot). some (with-slots f ss)) (slots-sa
 
 pub record SameNumbers (s t : State) : Type 0 where
   pub remaining : s .remaining ≡ t .remaining
+  pub next : s .next ≡ t .next
   pub self : s .self ≡ t .self
   pub program : s .program ≡ t .program
   pub end-mark : s .end-mark ≡ t .end-mark
@@ -58,6 +59,7 @@ module _ (s t : State) (c : SameNumbers s t) where
     texts-one-to-one = λ j k a b e. e;
     same-end = c .end-mark;
     same-remaining = c .remaining;
+    same-next = c .next;
     self-alike = renamed-same (s .self) ∙ c .self;
     program-alike = renamed-same (s .program) ∙ c .program;
     frames-alike = λ n r. frame-same (getElem? (s .heap .frames) n) ∙ c .frame n (reach-forth r);

@@ -42,28 +42,28 @@ mutual
 header-both : {h h′ h″ : List ℕ} → KeepsHeader h h′ → KeepsHeader h′ h″ → KeepsHeader h h″
 header-both a b = record { agree = λ k lo hi. b .agree k lo hi ∙ a .agree k lo hi }
 
-module _ (fixed : Constants) (Σ Π : Value) where
+module _ (fixed : Constants) (m : ℕ) (Σ Π : Value) where
   mutual
     unfolding evaluate
 
-    pub evaluate-header : (e : Expression Path) → ConstantExpression e → (s : Memories) → KeepsHeader (s .heap) (evaluate word-store fixed Σ Π e s .store .heap)
+    pub evaluate-header : (e : Expression Path) → ConstantExpression e → (s : Memories) → KeepsHeader (s .heap) (evaluate word-store fixed m Σ Π e s .store .heap)
     evaluate-header _ (ConstantExpression.base c) s = keeps-all (s .heap)
-    evaluate-header _ (ConstantExpression.frame c) s = header-both (keeps-claim (s .heap)) (fill-header _ c _ _)
+    evaluate-header _ (ConstantExpression.frame c) s = header-both (keeps-claim (s .heap) m) (fill-header _ c _ _)
 
-    fill-header : (ss : Slots Path) → ConstantSlots ss → (n : ℕ) (s : Memories) → KeepsHeader (s .heap) (fill word-store fixed Σ Π n ss s .heap)
+    fill-header : (ss : Slots Path) → ConstantSlots ss → (n : ℕ) (s : Memories) → KeepsHeader (s .heap) (fill word-store fixed m Σ Π n ss s .heap)
     fill-header _ ConstantSlots.no-slots n s = keeps-all (s .heap)
     fill-header _ (ConstantSlots.slot c cs) n s = header-both (evaluate-header _ c s) (header-both (keeps-add _ n _ _) (fill-header _ cs n _))
 
 -- ---- Lists
 
--- a frame number that is not in use has no slots in the list of frames held
-pub free-held : (h t : List ℕ) (n : ℕ) → frame-at (view-held h t) n ≡ none → getD (frames-held h) n (new-frame []) ≡ new-frame []
+-- a frame number that is not in use has no slots and maker 0 in the list of frames held
+pub free-held : (h t : List ℕ) (n : ℕ) → frame-at (view-held h t) n ≡ none → getD (frames-held h) n (new-frame 0 []) ≡ new-frame 0 []
 free-held h t n e = go (decLt n 256) (frame-used h n) refl
   where
-    go : Dec (n < 256) → (b : Bool) → frame-used h n ≡ b → getD (frames-held h) n (new-frame []) ≡ new-frame []
+    go : Dec (n < 256) → (b : Bool) → frame-used h n ≡ b → getD (frames-held h) n (new-frame 0 []) ≡ new-frame 0 []
     go (yes lt) true u = absurd (none≢some (sym e ∙ shows-frame h t n lt u))
-    go (yes lt) false u = held.frame-at h n (new-frame []) lt ∙ held.frame-of-free h n u
-    go (no ge) b u = held.frame-past h n (new-frame []) (omega arith)
+    go (yes lt) false u = held.frame-at h n (new-frame 0 []) lt ∙ held.frame-of-free h n u
+    go (no ge) b u = held.frame-past h n (new-frame 0 []) (omega arith)
 
 pub get-none : {A : Type 0} (l : List A) (n : ℕ) (d : A) → getElem? l n ≡ none → getD l n d ≡ d
 get-none l n d e = go (decLt n (length l))

@@ -1,5 +1,5 @@
--- Constants and frames of them, evaluated on a store and on the unbounded heap, where both have the same frames under the same numbers: they have so afterwards.
--- A store takes the lowest number that is not in use, which is the number after the last. Assumes nothing.
+-- Constants and frames of them, evaluated with maker 0 on a store and on the unbounded heap, where both have the same frames under the same numbers: they have so
+-- afterwards. A store takes the lowest number that is not in use, which is the number after the last. Assumes nothing.
 use mathlib.Core.Path.{_≡_, refl, sym, ap, _∙_}
 use mathlib.Core.Logic.{_↔_, _≢_}
 use mathlib.Core.Bool.{Bool, true, false, _||_, true≢false}
@@ -125,7 +125,7 @@ module _ {S : Type 0} (𝓞 : Store S) (p : Program) (𝓛 : Laws 𝓞 p) (lowes
     where
       go : Dec (next-frame s < length (h .frames)) → Dec (length (h .frames) < next-frame s) → next-frame s ≡ length (h .frames)
       go (yes lt) b =
-          let d = c .both (next-frame s) .1 (_, sym (heap-frame h (next-frame s)) ∙ elem-at (h .frames) (next-frame s) (new-frame []) lt) in
+          let d = c .both (next-frame s) .1 (_, sym (heap-frame h (next-frame s)) ∙ elem-at (h .frames) (next-frame s) (new-frame 0 []) lt) in
           absurd (none≢some (sym free ∙ d .1))
       go (no a) (yes lt) = let d = c .both (length (h .frames)) .0 (lowest s (length (h .frames)) lt) in absurd (none≢some (sym (frame-end h) ∙ d .1))
       go (no a) (no b) = omega arith
@@ -186,7 +186,7 @@ module _ {S : Type 0} (𝓞 : Store S) (p : Program) (𝓛 : Laws 𝓞 p) (lowes
   }
 
   constant-same : (E : ℕ → Bool) (b : Base Path) → Constant b → BaseFits p b → (s : S) (h : Heap) → Here E s h 0 →
-      Evaluated E s h 0 (B.evaluate 𝓞 fixed Σ Π (Expression.base b) s) (M.evaluate fixed Σ Π (Expression.base b) h)
+      Evaluated E s h 0 (B.evaluate 𝓞 fixed 0 Σ Π (Expression.base b) s) (M.evaluate fixed 0 Σ Π (Expression.base b) h)
   unfolding B.evaluate M.evaluate M._>>=_ base-value value-given
   constant-same E _ Constant.integer f s h H = unchanged s h _ H (valid-integer f)
   constant-same E _ Constant.string f s h H = unchanged s h _ H (valid-literal f)
@@ -256,40 +256,40 @@ module _ {S : Type 0} (𝓞 : Store S) (p : Program) (𝓛 : Laws 𝓞 p) (lowes
     abbrev k : ℕ
     k = next-frame s
 
-    pub claimed : 𝓛 .WellFormed (claim-frame s) × FrameClaimed (view s) (view (claim-frame s)) k
-    claimed = 𝓛 .claim-frame-is s (H .well-formed) (omega (arith, H .room))
+    pub claimed : 𝓛 .WellFormed (claim-frame s 0) × FrameClaimed (view s) (view (claim-frame s 0)) k 0
+    claimed = 𝓛 .claim-frame-is s (H .well-formed) (omega (arith, H .room)) 0 (omega arith)
 
     pub number-is : k ≡ length (h .frames)
     number-is = next-is s h (H .same) (claimed .1 .free)
 
-    new′ : FrameWritten (all-used h) (all-used (with-frame h)) k (new-frame [])
-    new′ = rw number-is (new-written h)
+    new′ : FrameWritten (all-used h) (all-used (with-frame 0 h)) k (new-frame 0 [])
+    new′ = rw number-is (new-written 0 h)
 
-    grown : Extends (all-used h) (all-used (with-frame h))
-    grown = written-extends (frame-end h) (new-written h)
+    grown : Extends (all-used h) (all-used (with-frame 0 h))
+    grown = written-extends (frame-end h) (new-written 0 h)
 
-    pub frames-claim : frames-used (view (claim-frame s)) ≡ suc (frames-used (view s))
-    frames-claim = claimed-frames (view s) (view (claim-frame s)) k (claimed .1)
+    pub frames-claim : frames-used (view (claim-frame s 0)) ≡ suc (frames-used (view s))
+    frames-claim = claimed-frames (view s) (view (claim-frame s 0)) k 0 (claimed .1)
 
-    pub claimed-same : Same E (view (claim-frame s)) (with-frame h)
-    claimed-same = same-written (H .same) k (new-frame []) (claimed .1 .written) new′
+    pub claimed-same : Same E (view (claim-frame s 0)) (with-frame 0 h)
+    claimed-same = same-written (H .same) k (new-frame 0 []) (claimed .1 .written) new′
 
-    claim-here : Here (marking k E) (claim-frame s) (with-frame h) n
+    claim-here : Here (marking k E) (claim-frame s 0) (with-frame 0 h) n
     claim-here = record { well-formed = claimed .0; same = same-opened k claimed-same; room = omega (arith, frames-claim, H .room) }
 
-    claim-open : (ss : Slots Path) → length (slot-names ss) ≤ 16 → Open (marking k E) k (new-frame []) (claim-frame s) ss
+    claim-open : (ss : Slots Path) → length (slot-names ss) ≤ 16 → Open (marking k E) k (new-frame 0 []) (claim-frame s 0) ss
     unfolding in-slots
     claim-open ss small = record { mark = marked k E; holds = claimed .1 .written .here; few = omega arith; new = λ y i. refl }
 
-    frame-same : (s′ : S) (o : Result M.Filled) → Filled (marking k E) k (new-frame []) (claim-frame s) (with-frame h) n s′ o →
+    frame-same : (s′ : S) (o : Result M.Filled) → Filled (marking k E) k (new-frame 0 []) (claim-frame s 0) (with-frame 0 h) n s′ o →
         Evaluated E s h (suc n) (record { value = Value.Frame k; store = s′ })
-        (M._>>=_ o (λ r. gives (record { value = Value.Frame (length (h .frames)); heap = with-frames (set (r .heap .frames) (length (h .frames)) (new-frame (r .slots))) (r .heap) })))
+        (M._>>=_ o (λ r. gives (record { value = Value.Frame (length (h .frames)); heap = with-frames (set (r .heap .frames) (length (h .frames)) (new-frame 0 (r .slots))) (r .heap) })))
     unfolding M._>>=_ with-frames with-frame
     frame-same s′ o R = record {
-      heap = with-frames (set (R .heap .frames) k (new-frame (R .added))) (R .heap);
+      heap = with-frames (set (R .heap .frames) k (new-frame 0 (R .added))) (R .heap);
       result-is = rw (R .result-is, number-is);
       well-formed = R .well-formed;
-      same = same-closed k (new-frame (R .added)) (R .same) (R .holds) stored;
+      same = same-closed k (new-frame 0 (R .added)) (R .same) (R .holds) stored;
       valid = valid-frame (R .holds);
       ext = record {
         old-frame = λ a g z. R .ext a g (not-new-frame (view s) k (claimed .1 .free) a g z) (claimed .1 .written .there a (not-new-frame (view s) k (claimed .1 .free) a g z) ∙ z);
@@ -304,8 +304,8 @@ module _ {S : Type 0} (𝓞 : Store S) (p : Program) (𝓛 : Laws 𝓞 p) (lowes
       taken = omega (arith, R .taken, frames-claim);
     }
       where
-        stored : FrameWritten (all-used (R .heap)) (all-used (with-frames (set (R .heap .frames) k (new-frame (R .added))) (R .heap))) k (new-frame (R .added))
-        stored = set-written (R .heap) k (new-frame (R .added)) (new-frame []) (R .ext′ .old-frame k (new-frame []) (new′ .here))
+        stored : FrameWritten (all-used (R .heap)) (all-used (with-frames (set (R .heap .frames) k (new-frame 0 (R .added))) (R .heap))) k (new-frame 0 (R .added))
+        stored = set-written (R .heap) k (new-frame 0 (R .added)) (new-frame 0 []) (R .ext′ .old-frame k (new-frame 0 []) (new′ .here))
 
   -- ---- Expressions and slots
 
@@ -313,15 +313,15 @@ module _ {S : Type 0} (𝓞 : Store S) (p : Program) (𝓛 : Laws 𝓞 p) (lowes
     unfolding B.evaluate M.evaluate frame-literals
 
     pub evaluate-same : (E : ℕ → Bool) (e : Expression Path) → ConstantExpression e → ExpressionFits p e → (s : S) (h : Heap) → Here E s h (frame-literals e) →
-        Evaluated E s h (frame-literals e) (B.evaluate 𝓞 fixed Σ Π e s) (M.evaluate fixed Σ Π e h)
+        Evaluated E s h (frame-literals e) (B.evaluate 𝓞 fixed 0 Σ Π e s) (M.evaluate fixed 0 Σ Π e h)
     evaluate-same E _ (ConstantExpression.base {b = b} c) t s h H = constant-same E b c t s h H
     evaluate-same E _ (ConstantExpression.frame {ss = ss} c) t s h H =
         frame-same E (frame-literals-in ss) s h H _ _
-        (fill-same (marking (next-frame s) E) ss c (t .1) (next-frame s) (new-frame []) (claim-frame s) (with-frame h)
+        (fill-same (marking (next-frame s) E) ss c (t .1) (next-frame s) (new-frame 0 []) (claim-frame s 0) (with-frame 0 h)
         (claim-here E (frame-literals-in ss) s h H) (claim-open E (frame-literals-in ss) s h H ss (t .0)))
 
     fill-same : (E : ℕ → Bool) (ss : Slots Path) → ConstantSlots ss → SlotsFit p ss → (k : ℕ) (f : Frame) (s : S) (h : Heap) → Here E s h (frame-literals-in ss) → Open E k f s ss →
-        Filled E k f s h (frame-literals-in ss) (B.fill 𝓞 fixed Σ Π k ss s) (M.fill fixed Σ Π ss h)
+        Filled E k f s h (frame-literals-in ss) (B.fill 𝓞 fixed 0 Σ Π k ss s) (M.fill fixed 0 Σ Π ss h)
     fill-same E _ ConstantSlots.no-slots t k f s h H P = record {
       added = [];
       heap = h;
@@ -339,5 +339,5 @@ module _ {S : Type 0} (𝓞 : Store S) (p : Program) (𝓛 : Laws 𝓞 p) (lowes
         let a = frame-literals e in
         let b = frame-literals-in ss in
         let D = evaluate-same E e c (t .2) s h (record { well-formed = H .well-formed; same = H .same; room = omega (arith, H .room) }) in
-        slot-filled E x a b k f e ss s h (t .0) (t .1) H P _ _ D _ (λ g. M.fill fixed Σ Π ss g)
+        slot-filled E x a b k f e ss s h (t .0) (t .1) H P _ _ D _ (λ g. M.fill fixed 0 Σ Π ss g)
         (fill-same E ss cs (t .3) k _ _ (D .heap) (slot-here E x a b k f e ss s h (t .0) (t .1) H P _ _ D) (slot-open E x a b k f e ss s h (t .0) (t .1) H P _ _ D))

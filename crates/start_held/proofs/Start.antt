@@ -16,7 +16,7 @@ use Rattle.framed.specs.Program.{Program}
 use Rattle.framed.specs.Values.{Frame, new-frame, empty-heap}
 use Rattle.framed.specs.Equality.{constants}
 use Rattle.framed.specs.Reach.{slot-value, values-in}
-use Rattle.framed.specs.Machine.{State, with-frame, start-from, start, frame-literals, frame-literals-in}
+use Rattle.framed.specs.Machine.{State, first-of, with-frame, start-from, start, frame-literals, frame-literals-in}
 use Rattle.framed.specs.Machine as M
 use Rattle.framed.proofs.General.{none≢some}
 use Rattle.tables.specs.Fields.{names, literals, codes, instructions, code-first}
@@ -25,7 +25,7 @@ use Rattle.program_form.proofs.Decides.{sound}
 use Rattle.trees.specs.Held as trees
 use Rattle.trees.specs.Held.{remaining}
 use Rattle.trees.proofs.Held.{one-level-held}
-use Rattle.heap.specs.Words.{self-held, program-held, position, end-mark, set-self, set-program, set-position}
+use Rattle.heap.specs.Words.{self-held, program-held, position, end-mark, maker-at, set-self, set-program, set-position}
 use Rattle.heap.specs.Held.{frames-held, heap-held, slots-held, frames-in-use, texts-in-use}
 use Rattle.heap.specs.Closed.{ValueFits}
 use Rattle.heap.proofs.Laws.{Local, local-trans, local-same, same-self, same-program, set-self-local, set-self-self, set-program-local, set-program-program, set-position-local, set-position-position}
@@ -55,7 +55,7 @@ use Rattle.emission.specs.Emit.{cleared}
 use Rattle.shapes.specs.Numbers.{slots-size}
 use Rattle.accepted.specs.Constant.{ConstantExpression}
 use Rattle.start_state.specs.Start.{written-slots, written, new-self, rooted, start-heap}
-use Rattle.start_state.proofs.Blank.{blank-word, blank-state, blank-frame, blank-text, blank-frames, blank-texts}
+use Rattle.start_state.proofs.Blank.{blank-word, blank-state, blank-frame, blank-text, blank-frames, blank-texts, position-zero}
 use Rattle.start_state.proofs.Texts.{evaluate-text}
 use Rattle.start_held.specs.Starts.{Holds, StartHeld, StartsHeld}
 use Rattle.start_held.proofs.Fits.{slots-fit}
@@ -76,6 +76,7 @@ module _ (p l : List ℕ) (q : Program) (a : Holds p l q) where
     names = sym (list-length _ (names p) 0) ∙ ap (λ (r : Program). length (r .names)) (a .decodes);
     literals = sym (list-length _ (literals p) 0) ∙ ap (λ (r : Program). length (r .literals)) (a .decodes);
     codes = sym (list-length _ (codes p) 0) ∙ ap (λ (r : Program). length (r .codes)) (a .decodes);
+    instructions = sym (list-length _ (instructions p) 0) ∙ ap (λ (r : Program). length (r .instructions)) (a .decodes);
   }
 
   slots-are : written-slots p ≡ q .slots
@@ -92,13 +93,13 @@ module _ (p l : List ℕ) (q : Program) (a : Holds p l q) where
   tree = Expression.frame (q .slots)
 
   abbrev made : Produced Memories
-  made = evaluate word-store (constants q) zero-value zero-value tree blank
+  made = evaluate word-store (constants q) 0 zero-value zero-value tree blank
 
   written-is : written p l ≡ made
   unfolding written
   written-is =
-      ap (λ (r : Program). evaluate word-store (constants r) zero-value zero-value (Expression.frame (written-slots p)) blank) (a .decodes)
-      ∙ ap (λ (ss : Slots Path). evaluate word-store (constants q) zero-value zero-value (Expression.frame ss) blank) slots-are
+      ap (λ (r : Program). evaluate word-store (constants r) 0 zero-value zero-value (Expression.frame (written-slots p)) blank) (a .decodes)
+      ∙ ap (λ (ss : Slots Path). evaluate word-store (constants q) 0 zero-value zero-value (Expression.frame ss) blank) slots-are
 
   few : frame-literals-in (q .slots) + 2 ≤ fields.frame-limit p
   few = let w = a .written .few in omega arith
@@ -139,7 +140,7 @@ module _ (p l : List ℕ) (q : Program) (a : Holds p l q) where
     room = omega (arith, frames-counted (cleared 16384) (cleared 16384), blank-frames, few-entries);
   }
 
-  D : Evaluated word-store q laws lowest-used zero-value zero-value nothing-open blank empty-heap (frame-literals tree) made (M.evaluate (constants q) zero-value zero-value tree empty-heap)
+  D : Evaluated word-store q laws lowest-used zero-value zero-value nothing-open blank empty-heap (frame-literals tree) made (M.evaluate (constants q) 0 zero-value zero-value tree empty-heap)
   D = evaluate-same word-store q laws lowest-used zero-value zero-value nothing-open tree (ConstantExpression.frame (a .written .constant)) tree-fits blank empty-heap start-here
 
   -- ---- A further frame for self
@@ -154,25 +155,26 @@ module _ (p l : List ℕ) (q : Program) (a : Holds p l q) where
 
   -- heap words with it
   abbrev h₁ : List ℕ
-  h₁ = claim-frame (made .store .heap)
+  h₁ = claim-frame (made .store .heap) 0
 
   abbrev g : ℕ
   g = next-frame (made .store .heap)
 
   text-is : made .store .text ≡ cleared 16384
-  text-is = evaluate-text (constants q) zero-value zero-value tree blank (no-joins tree (ConstantExpression.frame (a .written .constant)))
+  text-is = evaluate-text (constants q) 0 zero-value zero-value tree blank (no-joins tree (ConstantExpression.frame (a .written .constant)))
 
-  view-same : Same nothing-open (view-held h₁ (made .store .text)) (with-frame (D .heap))
+  view-same : Same nothing-open (view-held h₁ (made .store .text)) (with-frame 0 (D .heap))
   view-same = claimed-same word-store q laws lowest-used zero-value zero-value nothing-open 0 (made .store) (D .heap) self-here
 
   store-formed : StoreFormed h₁ (made .store .text) (limits p)
   store-formed = claimed word-store q laws lowest-used zero-value zero-value nothing-open 0 (made .store) (D .heap) self-here .0
 
+  made-zero : (k : ℕ) → k < 6 → word (made .store .heap) k ≡ 0
+  made-zero k lt =
+      evaluate-header (constants q) 0 zero-value zero-value tree (ConstantExpression.frame (a .written .constant)) blank .agree k (omega arith) lt ∙ blank-word 16384 k
+
   header-zero : (k : ℕ) → k < 6 → word h₁ k ≡ 0
-  header-zero k lt =
-      keeps-claim (made .store .heap) .agree k (omega arith) lt
-      ∙ evaluate-header (constants q) zero-value zero-value tree (ConstantExpression.frame (a .written .constant)) blank .agree k (omega arith) lt
-      ∙ blank-word 16384 k
+  header-zero k lt = keeps-claim (made .store .heap) 0 .agree k (omega arith) lt ∙ made-zero k lt
 
   no-text : (k : ℕ) → text-at (view-held h₁ (made .store .text)) k ≡ none
   no-text k =
@@ -230,7 +232,7 @@ module _ (p l : List ℕ) (q : Program) (a : Holds p l q) where
 
   heap-is : start-heap p l ≡ h₄
   unfolding start-heap rooted new-self
-  heap-is = rw written-is
+  heap-is = rw (written-is, position-zero (made .store .heap) made-zero)
 
   size₁ : length h₁ ≡ 16384
   size₁ = claimed-formed .heap-size
@@ -321,9 +323,10 @@ module _ (p l : List ℕ) (q : Program) (a : Holds p l q) where
   abbrev begun : State
   begun = record {
     remaining = getD (q .codes) (q .start) Code.finished;
+    next = first-of q (q .start);
     self = Value.Frame (length (D .heap .frames));
     program = made .value;
-    heap = with-frame (D .heap);
+    heap = with-frame 0 (D .heap);
     end-mark = 0;
   }
 
@@ -331,26 +334,26 @@ module _ (p l : List ℕ) (q : Program) (a : Holds p l q) where
   unfolding start start-from
   begun-is = rw (D .result-is)
 
-  frame-equal : (n : ℕ) → frame-at (view-held h₄ (cleared 16384)) n ≡ frame-at (all-used (with-frame (D .heap))) n
+  frame-equal : (n : ℕ) → frame-at (view-held h₄ (cleared 16384)) n ≡ frame-at (all-used (with-frame 0 (D .heap))) n
   unfolding nothing-open
   frame-equal n = ap (λ (H : View). frame-at H n) (view-is at₄ (omega arith)) ∙ view-same .equal n refl
 
   frame-there : (n : ℕ) (f : Frame) → frame-at (view-held h₄ (cleared 16384)) n ≡ some f →
-      (getElem? (with-frame (D .heap) .frames) n ≡ some f) × (getElem? (frames-held h₄) n ≡ some f)
+      (getElem? (with-frame 0 (D .heap) .frames) n ≡ some f) × (getElem? (frames-held h₄) n ≡ some f)
   unfolding view-held heap-held
-  frame-there n f e = (heap-frame (with-frame (D .heap)) n ∙ sym (frame-equal n) ∙ e, frame-read (view-held h₄ (cleared 16384)) n f e)
+  frame-there n f e = (heap-frame (with-frame 0 (D .heap)) n ∙ sym (frame-equal n) ∙ e, frame-read (view-held h₄ (cleared 16384)) n f e)
 
-  values-same : (n : ℕ) → values-in (with-frame (D .heap) .frames) n ≡ values-in (frames-held h₄) n
+  values-same : (n : ℕ) → values-in (with-frame 0 (D .heap) .frames) n ≡ values-in (frames-held h₄) n
   unfolding values-in
   values-same n = go (frame-at (view-held h₄ (cleared 16384)) n) refl
     where
-      go : (o : Option Frame) → frame-at (view-held h₄ (cleared 16384)) n ≡ o → values-in (with-frame (D .heap) .frames) n ≡ values-in (frames-held h₄) n
+      go : (o : Option Frame) → frame-at (view-held h₄ (cleared 16384)) n ≡ o → values-in (with-frame 0 (D .heap) .frames) n ≡ values-in (frames-held h₄) n
       go (some f) e =
           let b = frame-there n f e in
-          ap (λ (x : Frame). map slot-value (x .slots)) (get-default (with-frame (D .heap) .frames) n (new-frame []) f (b .0) ∙ sym (get-default (frames-held h₄) n (new-frame []) f (b .1)))
+          ap (λ (x : Frame). map slot-value (x .slots)) (get-default (with-frame 0 (D .heap) .frames) n (new-frame 0 []) f (b .0) ∙ sym (get-default (frames-held h₄) n (new-frame 0 []) f (b .1)))
       go none e =
           ap (λ (x : Frame). map slot-value (x .slots))
-          (get-none (with-frame (D .heap) .frames) n (new-frame []) (heap-frame (with-frame (D .heap)) n ∙ sym (frame-equal n) ∙ e) ∙ sym (free-held h₄ (cleared 16384) n e))
+          (get-none (with-frame 0 (D .heap) .frames) n (new-frame 0 []) (heap-frame (with-frame 0 (D .heap)) n ∙ sym (frame-equal n) ∙ e) ∙ sym (free-held h₄ (cleared 16384) n e))
 
   start-is : trees.program-held p l .start ≡ fields.start p
   unfolding trees.program-held
@@ -362,17 +365,24 @@ module _ (p l : List ℕ) (q : Program) (a : Holds p l q) where
       ∙ ap (λ (k : ℕ). getD (trees.program-held p l .codes) k Code.finished) start-is
       ∙ one-level-held p l (a .program) .code (fields.start p) (a .program .entries .limits .start-there)
 
+  next-is : first-of q (q .start) ≡ code-first p (fields.start p)
+  next-is =
+      ap (λ (r : Program). first-of r (r .start)) (sym (a .decodes))
+      ∙ ap (first-of (trees.program-held p l)) start-is
+      ∙ one-level-held p l (a .program) .code-begins (fields.start p) (a .program .entries .limits .start-there)
+
   same-start : SameNumbers begun (state-held p h₄ (cleared 16384))
   unfolding state-held heap-held
   same-start = record {
     remaining = remaining-is ∙ ap (remaining p) (sym position-is);
+    next = next-is ∙ sym position-is;
     self = ap Value.Frame (sym (number-is word-store q laws lowest-used zero-value zero-value nothing-open 0 (made .store) (D .heap) self-here)) ∙ sym self-is;
     program = sym program-is;
     end-mark = sym mark-is;
     values = values-same;
     frame = λ n r.
         let u = reached-in-use h₄ (well-formed-closed formed₄) r .frame n refl in
-        let b = frame-there n (new-frame (slots-held h₄ n)) (shows-frame h₄ (cleared 16384) n (u .small) (u .used)) in
+        let b = frame-there n (new-frame (maker-at h₄ n) (slots-held h₄ n)) (shows-frame h₄ (cleared 16384) n (u .small) (u .used)) in
         b .0 ∙ sym (b .1);
     text = λ k r.
         let u = reached-in-use h₄ (well-formed-closed formed₄) r .made k refl in

@@ -1,4 +1,4 @@
--- Cleared memories: no frame and no text is in use, and the header has self and program integer 0. Assumes nothing.
+-- Cleared memories: no frame and no text is in use, and the header has self and program integer 0 and position 0. Assumes nothing.
 use mathlib.Core.Path.{_≡_, refl, sym, _∙_}
 use mathlib.Core.Bool.{false}
 use mathlib.Core.List.{List}
@@ -11,7 +11,7 @@ use lib.Seq.{ext-getD}
 use Rattle.words.specs.Words.{word}
 use Rattle.framed.specs.declared.Value.{Value}
 use Rattle.ints.specs.Ints.{int-of}
-use Rattle.heap.specs.Words.{value-of, self-held, program-held, frame-word, frame-used, text-word, text-used}
+use Rattle.heap.specs.Words.{value-of, self-held, program-held, position, frame-word, frame-used, text-word, text-used}
 use Rattle.heap.specs.Held.{frames-in-use, texts-in-use}
 use Rattle.heap.specs.Closed.{Sized}
 use Rattle.heap.proofs.Lists.{zeros-at, passing-none}
@@ -68,6 +68,10 @@ self-zero h z = rw (z 0 (omega arith), z 1 (omega arith)) zero-value
 pub program-zero : (h : List ℕ) → ((k : ℕ) → k < 6 → word h k ≡ 0) → program-held h ≡ Value.Int (pos 0)
 unfolding program-held
 program-zero h z = rw (z 2 (omega arith), z 3 (omega arith)) zero-value
+
+pub position-zero : (h : List ℕ) → ((k : ℕ) → k < 6 → word h k ≡ 0) → position h ≡ 0
+unfolding position
+position-zero h z = z 4 (omega arith)
 
 pub clear-zero : (h : List ℕ) → length h ≡ 16384 → ((k : ℕ) → k < 6 → word h k ≡ 0) → clear-header h ≡ h
 unfolding word

@@ -19,17 +19,17 @@ use Rattle.evaluation.specs.Evaluation.{program-constants, Claims, CanFill, Fil
 use Rattle.evaluation.proofs.Stores.{claim-in-use, claim-leaves}
 use Rattle.emission.specs.Emit.{cleared}
 use Rattle.start_state.specs.Start.{written-slots, written, new-self, rooted, start-heap, CanStart, Makes, Starts}
-use Rattle.start_state.proofs.Blank.{blank-word, blank-size, blank-sized, blank-frames, blank-texts, self-zero, program-zero, clear-zero}
+use Rattle.start_state.proofs.Blank.{blank-word, blank-size, blank-sized, blank-frames, blank-texts, self-zero, program-zero, position-zero, clear-zero}
 use Rattle.start_state.proofs.Texts.{evaluate-text}
 
 -- ---- The written frames
 
--- a frame claimed on the cleared words
+-- a frame claimed on the cleared words, whose position is 0
 abbrev claimed : List ℕ
-claimed = claim-frame (cleared 16384)
+claimed = claim-frame (cleared 16384) 0
 
 claimed-leaves : Leaves (cleared 16384) (cleared 16384) 1 0 claimed (cleared 16384)
-claimed-leaves = claim-leaves (cleared 16384) (cleared 16384) blank-sized (blank-size 16384) (omega (arith, blank-frames))
+claimed-leaves = claim-leaves (cleared 16384) (cleared 16384) blank-sized (blank-size 16384) (omega (arith, blank-frames)) 0
 
 claimed-zero : (k : ℕ) → k < 6 → word claimed k ≡ 0
 claimed-zero k lt = claimed-leaves .header .agree k lt ∙ blank-word 16384 k
@@ -41,7 +41,7 @@ claimed-store = ap (λ (h : List ℕ). memories h (cleared 16384)) (clear-zero c
 
 module _ (p l h t : List ℕ) (can : CanStart p l h t) (f : ℕ) (h₁ : List ℕ) (c : Claims h f h₁) (z : ℕ) (ez : z ≡ program-slots p) where
   words-are : h₁ ≡ claimed
-  words-are = c .words ∙ ap claim-frame (can .heap-cleared)
+  words-are = c .words ∙ rw (can .heap-cleared, position-zero (cleared 16384) (λ k lt. blank-word 16384 k))
 
   number-is : f ≡ next-frame (cleared 16384)
   number-is = c .answer ∙ ap next-frame (can .heap-cleared)
@@ -52,7 +52,7 @@ module _ (p l h t : List ℕ) (can : CanStart p l h t) (f : ℕ) (h₁ : List �
       (record {
         writable = record { program = can .program; sized = claimed-leaves .sized; text-size = blank-size 16384 };
         place = SlotPlace.of-program;
-        frame = claim-in-use (cleared 16384) (cleared 16384) blank-sized (blank-size 16384) (omega (arith, blank-frames));
+        frame = claim-in-use (cleared 16384) (cleared 16384) blank-sized (blank-size 16384) (omega (arith, blank-frames)) 0;
         room = record {
           frames = omega (arith, claimed-leaves .frames, blank-frames, can .room);
           texts = omega (arith, claimed-leaves .texts, blank-texts, can .no-joins);
@@ -65,7 +65,7 @@ module _ (p l h t : List ℕ) (can : CanStart p l h t) (f : ℕ) (h₁ : List �
 
     stored : written p l .store ≡ store-held h₂ t₂
     unfolding written evaluate
-    stored = rw (self-zero claimed claimed-zero, program-zero claimed claimed-zero, claimed-store) at (filled .stored)
+    stored = rw (position-zero claimed claimed-zero, self-zero claimed claimed-zero, program-zero claimed claimed-zero, claimed-store) at (filled .stored)
 
     header-zero : (k : ℕ) → k < 6 → word h₂ k ≡ 0
     header-zero k lt = filled .leaves .header .agree k lt ∙ claimed-zero k lt
@@ -76,7 +76,7 @@ module _ (p l h t : List ℕ) (can : CanStart p l h t) (f : ℕ) (h₁ : List �
 
     text-stays : written p l .store .text ≡ cleared 16384
     unfolding written join-signs
-    text-stays = evaluate-text (program-constants p l) _ _ (Expression.frame (written-slots p)) (memories (cleared 16384) (cleared 16384)) (can .no-joins)
+    text-stays = evaluate-text (program-constants p l) _ _ _ (Expression.frame (written-slots p)) (memories (cleared 16384) (cleared 16384)) (can .no-joins)
 
     value-is : Value.Frame f ≡ written p l .value
     unfolding written evaluate

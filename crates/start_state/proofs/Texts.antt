@@ -16,7 +16,7 @@ use Rattle.bounded.specs.Bounded.{produce, evaluate, fill, heap-in}
 use Rattle.word_store.specs.Store.{Memories, word-store}
 use Rattle.producing.proofs.Operated.{Modest, an-end, a-number, a-text, operated-modest}
 
-module _ (cs : Constants) (Σ Π : Value) where
+module _ (cs : Constants) (m : ℕ) (Σ Π : Value) where
   modest : (h : Heap) (o : Operator) (a b : Base Path) → Modest (is-join o) (operation-result cs Σ Π h o a b)
   unfolding operation-result M._>>=_
   modest h o a b = go (base-value Σ Π (h .frames) a) (base-value Σ Π (h .frames) b)
@@ -35,12 +35,12 @@ module _ (cs : Constants) (Σ Π : Value) where
   mutual
     unfolding evaluate join-signs
 
-    pub evaluate-text : (e : Expression Path) (s : Memories) → join-signs e ≡ 0 → evaluate word-store cs Σ Π e s .store .text ≡ s .text
+    pub evaluate-text : (e : Expression Path) (s : Memories) → join-signs e ≡ 0 → evaluate word-store cs m Σ Π e s .store .text ≡ s .text
     evaluate-text (Expression.base b) s z = refl
     evaluate-text (Expression.not b) s z = refl
     evaluate-text (Expression.operation o a b) s z = produce-text _ s (modest (heap-in word-store s) o a b) z
     evaluate-text (Expression.frame ss) s z = fill-text ss _ _ z
 
-    pub fill-text : (ss : Slots Path) (n : ℕ) (s : Memories) → join-signs-in ss ≡ 0 → fill word-store cs Σ Π n ss s .text ≡ s .text
+    pub fill-text : (ss : Slots Path) (n : ℕ) (s : Memories) → join-signs-in ss ≡ 0 → fill word-store cs m Σ Π n ss s .text ≡ s .text
     fill-text Slots.no-slots n s z = refl
     fill-text (Slots.slot x e ss) n s z = fill-text ss n _ (omega arith) ∙ evaluate-text e s (omega arith)

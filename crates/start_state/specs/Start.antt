@@ -12,7 +12,7 @@ use Rattle.framed.specs.Machine.{frame-literals-in, join-signs-in}
 use Rattle.tables.specs.Fields.{program-slots, start, code-first}
 use Rattle.program_form.specs.WellFormed.{WellFormed}
 use Rattle.trees.specs.Held as trees
-use Rattle.heap.specs.Words.{set-self, set-program, set-position}
+use Rattle.heap.specs.Words.{position, set-self, set-program, set-position}
 use Rattle.allocation.specs.Allocation.{next-frame}
 use Rattle.bounded.specs.Bounded.{Produced, evaluate}
 use Rattle.word_store.specs.Store.{Memories, memories, word-store, claim-frame}
@@ -26,11 +26,11 @@ written-slots p = trees.slots-held p (program-slots p)
 -- the written frames, made by the rule of a frame expression on cleared memories, where self and program are integer 0: the program frame, and both memories
 unfoldable pub written : List ℕ → List ℕ → Produced Memories
 written p l =
-    evaluate word-store (program-constants p l) (Value.Int (pos 0)) (Value.Int (pos 0)) (Expression.frame (written-slots p)) (memories (cleared 16384) (cleared 16384))
+    evaluate word-store (program-constants p l) 0 (Value.Int (pos 0)) (Value.Int (pos 0)) (Expression.frame (written-slots p)) (memories (cleared 16384) (cleared 16384))
 
--- heap words h with self a new frame
+-- heap words h with self a new frame, of the maker that the position says: 0 before the start
 unfoldable pub new-self : List ℕ → List ℕ
-new-self h = set-self (claim-frame h) (Value.Frame (next-frame h))
+new-self h = set-self (claim-frame h (position h)) (Value.Frame (next-frame h))
 
 -- and with this program, and the position at the start; the end mark is that of h
 unfoldable pub rooted : List ℕ → List ℕ → Value → List ℕ

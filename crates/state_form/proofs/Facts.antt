@@ -13,7 +13,7 @@ use Rattle.words.specs.Words.{word}
 use Rattle.framed.specs.declared.Text.{Text}
 use Rattle.framed.specs.declared.Value.{Value}
 use Rattle.framed.specs.Bytes.{string-byte}
-use Rattle.heap.specs.Words.{value-of, tag-of, number-of, self-held, program-held, position, end-mark, frame-word, frame-used, slot-count-at, slot-name-at, slot-tag-at, slot-number-at, slot-value-at, text-word, text-used, text-length, text-byte}
+use Rattle.heap.specs.Words.{value-of, tag-of, number-of, self-held, program-held, position, end-mark, frame-word, frame-used, slot-count-at, maker-at, slot-name-at, slot-tag-at, slot-number-at, slot-value-at, text-word, text-used, text-length, text-byte}
 use Rattle.heap.specs.Held.{frames-in-use, texts-in-use}
 use Rattle.heap.proofs.Laws.{value-case}
 use Rattle.heap.specs.Closed.{Sized, FrameInUse, TextInUse, NamesInUse, Closed}
@@ -136,24 +136,30 @@ module _ (h : List ℕ) (l : Limits) (f : ℕ) where
     flag : (frame-word h f ≡ 0) ⊎ (frame-word h f ≡ 1)
     form : frame-word h f ≡ 1 → FrameFormed h l f
 
+  -- the same as the test has it
+  abbrev Tested : Type 0
+  Tested = (frame-word h f ≡ 0) ⊎ Both (slot-count-at h f ≤ 16) (Both (Both (frame-word h f ≡ 1) (maker-at h f ≤ l .instructions)) (Every (λ i. SlotFormed h l f i) (slot-count-at h f)))
+
   frame-decides : Decides (frame-formed h l f) AnyFrame
   unfolding frame-formed slots-formed
   frame-decides =
       decides-as
-      (decides-or (eqb (frame-word h f) 0) (leb (slot-count-at h f) 16 && (eqb (frame-word h f) 1 && slots-formed h l f (slot-count-at h f))) (decides-eq (frame-word h f) 0)
-      (decides-and (leb (slot-count-at h f) 16) (eqb (frame-word h f) 1 && slots-formed h l f (slot-count-at h f)) (decides-le (slot-count-at h f) 16)
-      (decides-and (eqb (frame-word h f) 1) (slots-formed h l f (slot-count-at h f)) (decides-eq (frame-word h f) 1)
+      (decides-or (eqb (frame-word h f) 0) (leb (slot-count-at h f) 16 && (eqb (frame-word h f) 1 && leb (maker-at h f) (l .instructions) && slots-formed h l f (slot-count-at h f)))
+      (decides-eq (frame-word h f) 0)
+      (decides-and (leb (slot-count-at h f) 16) (eqb (frame-word h f) 1 && leb (maker-at h f) (l .instructions) && slots-formed h l f (slot-count-at h f)) (decides-le (slot-count-at h f) 16)
+      (decides-and (eqb (frame-word h f) 1 && leb (maker-at h f) (l .instructions)) (slots-formed h l f (slot-count-at h f))
+      (decides-and (eqb (frame-word h f) 1) (leb (maker-at h f) (l .instructions)) (decides-eq (frame-word h f) 1) (decides-le (maker-at h f) (l .instructions)))
       (decides-all (slot-formed h l f) (λ i. SlotFormed h l f i) (slot-count-at h f) (λ i lt. slot-decides i)))))
       to from
     where
-      to : (frame-word h f ≡ 0) ⊎ Both (slot-count-at h f ≤ 16) (Both (frame-word h f ≡ 1) (Every (λ i. SlotFormed h l f i) (slot-count-at h f))) → AnyFrame
+      to : Tested → AnyFrame
       to (inl e) = record { flag = inl e; form = λ q. absurd (omega arith) }
-      to (inr d) = record { flag = inr (d .second .first); form = λ q. record { few = d .first; slot = d .second .second .each } }
+      to (inr d) = record { flag = inr (d .second .first .first); form = λ q. record { few = d .first; maker = d .second .first .second; slot = d .second .second .each } }
 
-      from : AnyFrame → (frame-word h f ≡ 0) ⊎ Both (slot-count-at h f ≤ 16) (Both (frame-word h f ≡ 1) (Every (λ i. SlotFormed h l f i) (slot-count-at h f)))
+      from : AnyFrame → Tested
       from a =
           ⊎-elim (λ e. inl e)
-          (λ e. inr (record { first = a .form e .few; second = record { first = e; second = record { each = a .form e .slot } } })) (a .flag)
+          (λ e. inr (record { first = a .form e .few; second = record { first = record { first = e; second = a .form e .maker }; second = record { each = a .form e .slot } } })) (a .flag)
 
 used-word : (h : List ℕ) (f : ℕ) → Decides (frame-used h f) (frame-word h f ≡ 1)
 unfolding frame-used

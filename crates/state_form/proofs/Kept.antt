@@ -18,11 +18,11 @@ use Rattle.heap.specs.Held.{frames-in-use, texts-in-use}
 use Rattle.heap.specs.Closed.{FrameInUse, TextInUse, NamesInUse}
 use Rattle.heap.proofs.Lists.{zeros-at, passing-none}
 use Rattle.heap.proofs.Laws.{frame-word-free, text-word-free}
-use Rattle.heap.proofs.Laws.{Local, Same, local-same, same-part, same-position, same-end-mark, same-frame-word, same-frame-used, same-count, same-name, same-tag, same-number, same-text-used, same-text-length}
+use Rattle.heap.proofs.Laws.{Local, Same, local-same, same-part, same-position, same-end-mark, same-frame-word, same-frame-used, same-count, same-maker, same-name, same-tag, same-number, same-text-used, same-text-length}
 use Rattle.heap.proofs.Laws.{set-self-local, set-program-local, set-position-local, set-position-position}
-use Rattle.heap.proofs.Laws.{set-slot-local, set-slot-tag, set-slot-number, set-slot-count, set-slot-name, set-slot-other-tag, set-slot-other-number}
-use Rattle.heap.proofs.Laws.{add-slot-is, add-slot-local, add-slot-count, add-slot-name, add-slot-tag, add-slot-number, add-slot-old-name, add-slot-old-tag, add-slot-old-number}
-use Rattle.heap.proofs.Laws.{take-frame-local, take-frame-word, take-frame-used, take-frame-count, take-text-local, take-text-word, set-byte-other}
+use Rattle.heap.proofs.Laws.{set-slot-local, set-slot-tag, set-slot-number, set-slot-count, set-slot-maker, set-slot-name, set-slot-other-tag, set-slot-other-number}
+use Rattle.heap.proofs.Laws.{add-slot-is, add-slot-local, add-slot-count, add-slot-maker, add-slot-name, add-slot-tag, add-slot-number, add-slot-old-name, add-slot-old-tag, add-slot-old-number}
+use Rattle.heap.proofs.Laws.{take-frame-local, take-frame-word, take-frame-used, take-frame-count, take-frame-maker, take-text-local, take-text-word, set-byte-other}
 use Rattle.heap.proofs.Held.{low-frames, low-texts, high-frames, used-same, widen, body-used, take-frame-count-one, take-text-used, take-text-count-one}
 use Rattle.frame_form.specs.declared.Limits.{Limits}
 use Rattle.state_form.specs.Form.{ValueFormed, SlotFormed, FrameFormed, TextFormed, StateWellFormed}
@@ -80,7 +80,7 @@ value-stays h h′ l tag n s v = record {
   frame = λ e. s .frame n (v .frame e);
 }
 
--- a frame whose slots did not change, where what they name is still there
+-- a frame whose slots and maker did not change, where what they name is still there
 pub frame-stays : (h h′ : List ℕ) (l : Limits) (f : ℕ) → Same (129 + 51 * f) (179 + 51 * f) h h′ → FrameFormed h l f
     → ((i : ℕ) → i < slot-count-at h f → ValueFormed h′ l (slot-tag-at h f i) (slot-number-at h f i)) → FrameFormed h′ l f
 frame-stays h h′ l f a o v =
@@ -88,6 +88,7 @@ frame-stays h h′ l f a o v =
     let le : slot-count-at h f ≤ 16 = o .few in
     record {
       few = omega arith;
+      maker = rw (same-maker f a) (o .maker);
       slot = λ i lt. record {
         named = rw (same-name f a i (omega arith)) (o .slot i (omega arith) .named);
         value = rw (same-tag f a i (omega arith), same-number f a i (omega arith)) (v i (omega arith));
@@ -261,6 +262,7 @@ module _ (h t : List ℕ) (l : Limits) (w : StateWellFormed h t l) (f : ℕ) (u 
           let nm = set-slot-name h f i v (w .heap-size) (u .small) (omega arith) in
           record {
             few = omega arith;
+            maker = rw (set-slot-maker h f i v (w .heap-size) (u .small) (omega arith)) (form .maker);
             slot = λ j jl. record {
               named = rw (nm j (omega arith)) (form .slot j (omega arith) .named);
               value = value-stays h (set-slot-value h f i v) l _ _ s (at j (omega arith) (ℕ-discrete j i));
@@ -308,14 +310,19 @@ module _ (h t : List ℕ) (l : Limits) (w : StateWellFormed h t l) (f : ℕ) (u 
       made : Stays h added → FrameFormed added l f
       made s =
           let c : slot-count-at added f ≡ slot-count-at h f + 1 = add-slot-count h f (slot-count-at h f) x v (w .heap-size) (u .small) room in
-          record { few = omega arith; slot = λ j jl. at s j (omega arith) (ℕ-discrete j (slot-count-at h f)) }
+          record {
+            few = omega arith;
+            maker = rw (add-slot-maker h f (slot-count-at h f) x v (w .heap-size) (u .small) room) (form .maker);
+            slot = λ j jl. at s j (omega arith) (ℕ-discrete j (slot-count-at h f));
+          }
 
-pub take-frame-formed : (h t : List ℕ) (l : Limits) → StateWellFormed h t l → (f : ℕ) → f < 256 → frame-used h f ≡ false → length (frames-in-use h) < l .frames
-    → StateWellFormed (take-frame h f) t l
-take-frame-formed h t l w f hf free room =
-    one-frame-kept h (take-frame h f) t l f hf (take-frame-local h f (w .heap-size) hf) w (take-frame-word h f (w .heap-size) hf) (take-frame-used h f (w .heap-size) hf)
-    (let c : slot-count-at (take-frame h f) f ≡ 0 = take-frame-count h f (w .heap-size) hf in record { few = omega arith; slot = λ i lt. absurd (omega arith) })
-    (let c : length (frames-in-use (take-frame h f)) ≡ suc (length (frames-in-use h)) = take-frame-count-one h (well-formed-sized w) f hf free in omega arith)
+pub take-frame-formed : (h t : List ℕ) (l : Limits) → StateWellFormed h t l → (f m : ℕ) → f < 256 → m ≤ l .instructions → frame-used h f ≡ false
+    → length (frames-in-use h) < l .frames → StateWellFormed (take-frame h f m) t l
+take-frame-formed h t l w f m hf made free room =
+    one-frame-kept h (take-frame h f m) t l f hf (take-frame-local h f m (w .heap-size) hf) w (take-frame-word h f m (w .heap-size) hf) (take-frame-used h f m (w .heap-size) hf)
+    (let c : slot-count-at (take-frame h f m) f ≡ 0 = take-frame-count h f m (w .heap-size) hf in
+    record { few = omega arith; maker = rw (take-frame-maker h f m (w .heap-size) hf) made; slot = λ i lt. absurd (omega arith) })
+    (let c : length (frames-in-use (take-frame h f m)) ≡ suc (length (frames-in-use h)) = take-frame-count-one h (well-formed-sized w) f m hf free in omega arith)
 
 -- ---- A change of one made text
 

@@ -8,7 +8,7 @@ use mathlib.Core.Bool.{true}
 use lib.ListN.{length}
 use Rattle.words.specs.Words.{word}
 use Rattle.framed.specs.Bytes.{string-byte}
-use Rattle.heap.specs.Words.{position, end-mark, frame-word, slot-count-at, slot-name-at, slot-tag-at, slot-number-at, text-length, text-byte}
+use Rattle.heap.specs.Words.{position, end-mark, frame-word, maker-at, slot-count-at, slot-name-at, slot-tag-at, slot-number-at, text-length, text-byte}
 use Rattle.heap.specs.Held.{frames-in-use, texts-in-use}
 use Rattle.heap.specs.Closed.{FrameInUse, TextInUse}
 use Rattle.frame_form.specs.declared.Limits.{Limits}
@@ -29,6 +29,8 @@ pub record SlotFormed (h : List ℕ) (l : Limits) (f i : ℕ) : Type 0 where
 
 pub record FrameFormed (h : List ℕ) (l : Limits) (f : ℕ) : Type 0 where
   pub few : slot-count-at h f ≤ 16
+  -- 0, or an existing instruction, counted from 1
+  pub maker : maker-at h f ≤ l .instructions
   pub slot : (i : ℕ) → i < slot-count-at h f → SlotFormed h l f i
 
 -- at most 64 bytes that keep the string rule

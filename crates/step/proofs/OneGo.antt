@@ -18,7 +18,7 @@ use Rattle.step_parts.proofs.Room.{ended-quietly, ended-then-knows, made-quietl
 module _ (p l h t : List ℕ) (i : ℕ) (can : CanStep p l h t i) where
   pub can-do : CanDo p l h t i
   unfolding Formed
-  can-do = record { memories = can .memories; there = can .there }
+  can-do = record { memories = can .memories; there = can .there; next = can .next }
 
   -- nothing is counted in
   room-for-nothing : MakesNothing p i → (k : Known) → Knows h 0 0 k → RoomFor p h i k

@@ -84,7 +84,7 @@ module _ (p l h t : List ℕ) (i : ℕ) (own : Bool) (at : CanDoEntry p l h t i 
 
   module _ (x : ℕ) (ex : x ≡ instruction-c p i) (g : Given) (eg : g ≡ expression-given p l h t x) where
     here : Assignment p l h t i (instruction-a p i) (instruction-b p i) x (root-of own h) (path-of own (path-list p (instruction-b p i) (instruction-a p i)))
-    here = root-path p l h t i (instruction-a p i) (instruction-b p i) x (checks p l h t i (at .can)) (at .can .there) own (rw ex (at .entry))
+    here = root-path p l h t i (instruction-a p i) (instruction-b p i) x (checks p l h t i (at .can)) (at .can .there) (at .can .next) own (rw ex (at .entry))
 
     means : Gives p l h t x g
     means = gives-means p l h t i (instruction-a p i) (instruction-b p i) x (at .can) _ _ here g eg
@@ -98,7 +98,7 @@ module _ (p l h t : List ℕ) (i : ℕ) (own : Bool) (at : CanDoEntry p l h t i 
     module _ (v : Value) (is : g ≡ Given.Value v) (j n : ℕ) (ej : j ≡ instruction-a p i) (en : n ≡ instruction-b p i) (r : ℕ) (h₁ : List ℕ)
         (q : PutsFrom p h (set-root own h v) (root-of own h) j n v r h₁) where
       along : Assignment p l h t i j n x (root-of own h) (path-of own (path-list p n j))
-      along = root-path p l h t i j n x (checks p l h t i (at .can)) (at .can .there) own (rw (ex, ej, en) (at .entry))
+      along = root-path p l h t i j n x (checks p l h t i (at .can)) (at .can .there) (at .can .next) own (rw (ex, ej, en) (at .entry))
 
       value : GivesValue p l h t x v
       value = rw is at means

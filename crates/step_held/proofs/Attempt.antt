@@ -29,7 +29,6 @@ use Rattle.word_store.proofs.Updates.{held-after, header-after}
 use Rattle.word_store.proofs.Values.{valid-named}
 use Rattle.reserving.proofs.Meaning.{reserved-closed, reserved-header}
 use Rattle.commit.specs.Commit as C
-use Rattle.commit.specs.Commit.{position-after}
 use Rattle.commit.proofs.Headers.{kept-stays}
 use Rattle.program_fits.proofs.Laws.{well-formed-fits}
 use Rattle.running.specs.Running.{bounded-held, bounded-run, BoundedForm}
@@ -39,7 +38,7 @@ use Rattle.running.proofs.Cleared.{cleared-through}
 use Rattle.step_parts.specs.Step.{frames-for, texts-for, CanStep, ready-words, step-end-held, line-held, committed, committed-heap, committed-text, attempt-step, ready-state, machine-run}
 use Rattle.step_parts.proofs.Runs.{ready-is, run-ended, run-no-space, run-made, run-zero}
 use Rattle.step_held.specs.StepHeld.{EndHeld, SpaceHeld, MadeHeld, AttemptHeld, ends, lacks-space, makes, StepHeld}
-use Rattle.step_held.proofs.Position.{position-remains, position-small}
+use Rattle.step_held.proofs.Position.{next-remains}
 use Rattle.step_held.proofs.Words.{words-hold, words-header}
 
 module _ (p l h t : List ℕ) (i : ℕ) (can : CanStep p l h t i) where
@@ -81,6 +80,14 @@ module _ (p l h t : List ℕ) (i : ℕ) (can : CanStep p l h t i) where
   header₁ =
       kept-stays p (record { agree = λ k lt. reserved-header (remaining p) p h t (frames-for p i) (texts-for p i) .agree k (omega arith) lt })
       .formed (limits p) refl (B .header h t w)
+
+  next₁ : then-ready .next ≡ suc i
+  unfolding state-held bounded.ready
+  next₁ = ap (λ (b : Bounded Memories). b .next) is-ready ∙ can .next
+
+  agrees : remaining p (then-ready .next) ≡ then-ready .remaining
+  unfolding state-held
+  agrees = refl
 
   leaves : (fuel space : ℕ) → relation.WellFormed word-store q (B .laws) F T (machine-run p l h t i fuel space now .state)
   leaves fuel space = bounded-calls word-store q (B .laws) F T (B .admitted) .run-leaves fuel space now (B .forth h t w)
@@ -151,14 +158,12 @@ module _ (p l h t : List ℕ) (i : ℕ) (can : CanStep p l h t i) where
     made-state : bounded-held p (committed-heap p l h₁ t i) (committed-text p l h₁ t i) ≡ made
     unfolding committed-heap committed-text
     made-state =
-        words-hold (remaining p) made (position-after p h₁ i) made-size made-clear (fit (made .self) (made-formed .self)) (fit (made .program) (made-formed .program))
-        (position-remains p l h₁ t (w .program) i (can .there))
+        words-hold (remaining p) made made-size made-clear (fit (made .self) (made-formed .self)) (fit (made .program) (made-formed .program))
+        (next-remains p l (w .program) then-ready agrees i (can .there) next₁ (instruction-held p i))
 
     made-header : HeaderFormed (committed-heap p l h₁ t i) (limits p)
-    unfolding committed-heap limits
-    made-header =
-        words-header (remaining p) made (position-after p h₁ i) made-size made-clear (limits p)
-        (position-small p l h₁ t (w .program) i (can .there) (header₁ .position-there))
+    unfolding committed-heap
+    made-header = words-header (remaining p) made made-size made-clear (limits p) (rw (well-formed-fits p l (w .program) .limits .instructions) (made-formed .next))
 
     made-held : (out : List ℕ) (used : ℕ) → leb (length L) (length out - used) ≡ true → MadeHeld p l h t i out used L (committed-heap p l h₁ t i) (committed-text p l h₁ t i)
     unfolding attempt-step bounded-run

@@ -98,7 +98,7 @@ module _ (p l h t : List ℕ) (i : ℕ) (can : CanAssignJoin p l h t i) where
   own = eqb (instruction-kind p i) 0
 
   along : Assignment p l h t i (instruction-a p i) (instruction-b p i) x (root-of own h) (path-of own (path-list p (instruction-b p i) (instruction-a p i)))
-  along = root-path p l h t i (instruction-a p i) (instruction-b p i) x (can .checks .memories) (can .checks .there) own (assignment-entry p i (instruction-kind p i) refl (assigns-below p i (can .joins)))
+  along = root-path p l h t i (instruction-a p i) (instruction-b p i) x (can .checks .memories) (can .checks .there) (can .commits .next) own (assignment-entry p i (instruction-kind p i) refl (assigns-below p i (can .joins)))
 
   pub join-no-show : (a : ℕ) → instruction-at p i ≡ InstructionEntry.Show a → ⊥
   join-no-show = along .quiet

@@ -39,13 +39,13 @@ module _ (p l h t : List ℕ) (i : ℕ) (can : CanDo p l h t i) (e : Instruction
   jump-entry = sym is ∙ ee
 
   pub can-jump : CanJump p l h a c
-  can-jump = commit-can-jump p l h t i (writable p l h t i can) (can .there) a c jump-entry
+  can-jump = commit-can-jump p l h t i (writable p l h t i can) (can .there) (can .next) a c jump-entry
 
   pub jump-does : (r : ℕ) (h′ : List ℕ) → JumpsOnce p l h a c r h′ → Does p l h t i r h′
   jump-does r h′ k =
       does-jump p l h t i (jump-nothing p l (formed p l h t i can .program) i (can .there) a c jump-entry) (λ b s. let y : _≡_ {A = ℕ} 0 1 = cc in omega arith) a c
       (λ d ed. check-jump p l h t i (checks p l h t i can) (can .there) a c d jump-entry ed) r h′ k
-      (λ j. commit-jumps p l h t i (writable p l h t i can) (can .there) a c jump-entry h′ j)
+      (λ j. commit-jumps p l h t i (writable p l h t i can) (can .there) (can .next) a c jump-entry h′ j)
 
 -- ---- branch
 
@@ -74,13 +74,13 @@ module _ (p l h t : List ℕ) (i a c d : ℕ) (can : CanDoEntry p l h t i (Instr
         nothing = nothing-made;
         end = ifeq-on p l h t i (checks p l h t i (can .can)) there a c d (can .entry) r er v ev b eb q;
         no-show = quiet;
-        commits = commit-ifeq-on p l h t i (writable p l h t i (can .can)) there a c d (can .entry) v (given-some p h a r er v ev) b eb q h′ eh;
+        commits = commit-ifeq-on p l h t i (writable p l h t i (can .can)) there (can .can .next) a c d (can .entry) v (given-some p h a r er v ev) b eb q h′ eh;
       })
 
       pub branch-can : CanJump p l h c d
-      branch-can = commit-can-ifeq p l h t i (writable p l h t i (can .can)) there a c d (can .entry)
+      branch-can = commit-can-ifeq p l h t i (writable p l h t i (can .can)) there (can .can .next) a c d (can .entry)
 
       pub branch-jumps : b ≡ false → (g : ℕ) (h′ : List ℕ) → JumpsOnce p l h c d g h′ → Does p l h t i g h′
       branch-jumps q g h′ k =
           does-jump p l h t i nothing-made quiet c d (ifeq-jump p l h t i (checks p l h t i (can .can)) there a c d (can .entry) r er v ev b eb q) g h′ k
-          (λ j. commit-ifeq-jumps p l h t i (writable p l h t i (can .can)) there a c d (can .entry) v (given-some p h a r er v ev) b eb q h′ j)
+          (λ j. commit-ifeq-jumps p l h t i (writable p l h t i (can .can)) there (can .can .next) a c d (can .entry) v (given-some p h a r er v ev) b eb q h′ j)

@@ -2,16 +2,16 @@
 -- what it does is the bounded machine's commit. Assumes nothing.
 use Prim.Native.Nat.{ℕ}
 use mathlib.Core.Path.{_≡_}
-use mathlib.Core.List.{List, []}
+use mathlib.Core.List.{List}
 use Rattle.trees.specs.Held as trees
 use Rattle.heap.specs.Words.{self-held, program-held}
 use Rattle.heap.specs.Held.{frames-held}
 use Rattle.bounded.specs.Check.{end-of, jump-result}
 use Rattle.commit.specs.Commit.{Jumps}
 
--- the end of a jump by the expressions a and c; it is the same for every list of codes
+-- the end of a jump by the expressions a and c
 unfoldable pub jump-end : List ℕ → List ℕ → ℕ → ℕ → ℕ
-jump-end p h a c = end-of (jump-result [] (self-held h) (program-held h) (frames-held h) (trees.base-held p a) (trees.base-held p c))
+jump-end p h a c = end-of (jump-result (self-held h) (program-held h) (frames-held h) (trees.base-held p a) (trees.base-held p c))
 
 pub record JumpsOnce (p l h : List ℕ) (a c r : ℕ) (h′ : List ℕ) : Type 0 where
   pub end : r ≡ jump-end p h a c

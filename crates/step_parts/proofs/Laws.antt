@@ -1,6 +1,6 @@
 -- What each way through `attempt` gives. Assumes nothing.
 use Prim.Native.Nat.{ℕ, _-_}
-use mathlib.Core.Path.{_≡_, refl, _∙_, ap, ap₂, sym}
+use mathlib.Core.Path.{_≡_, refl, _∙_, ap, sym}
 use mathlib.Core.List.{List}
 use lib.ListN.{length, getD}
 use mir.Syntax.{w32}
@@ -98,7 +98,7 @@ module _ (p l h t : List ℕ) (i : ℕ) (out : List ℕ) (used : ℕ) (can : Can
         heap-is : committed-heap p l h₁ t i ≡ h′
         unfolding committed-heap
         heap-is =
-            sym (words-exact (remaining p) h′ t′ (c .size) fit (record { self = header .self-tag; program = header .program-tag }) ∙ ap₂ heap-of (c .state) (c .position))
+            sym (words-exact (remaining p) h′ t′ (c .size) fit (record { self = header .self-tag; program = header .program-tag }) ∙ ap heap-of (c .state))
 
         text-is : committed-text p l h₁ t i ≡ t′
         unfolding committed-text state-held store-held

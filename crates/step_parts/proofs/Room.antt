@@ -60,7 +60,7 @@ module _ (p l h t : List ℕ) (i : ℕ) (can : CanStep p l h t i) (k : Known) (w
     pub room-commits : CanCommit p l h t i
     room-commits =
         let f = formed-now p l h t i can in
-        can-commit p l h h t i (f .program) (well-formed-sized (f .state)) (f .state .text-size) (can .there) form reserves
+        can-commit p l h h t i (f .program) (well-formed-sized (f .state)) (f .state .text-size) (can .there) (can .next) form reserves
 
   module _ (e : ℕ) (ee : e ≡ end-met p l h t i) where
     pub room-ends : StepEnds p l h t i e h

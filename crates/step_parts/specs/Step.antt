@@ -23,7 +23,7 @@ use Rattle.word_store.specs.State.{HeaderFormed}
 use Rattle.allocation.specs.declared.Known.{Known}
 use Rattle.allocation.specs.Known.{Knows}
 use Rattle.reserving.specs.Reserving.{room-end-held, reserved-words}
-use Rattle.commit.specs.Commit.{state-of, position-after}
+use Rattle.commit.specs.Commit.{state-of}
 use Rattle.commit.specs.Words.{heap-of, WordsFit}
 use Rattle.step_parts.specs.declared.Shown.{Shown}
 use Rattle.step_parts.specs.declared.Outcome.{Outcome}
@@ -100,7 +100,7 @@ module _ (p l h t : List ℕ) (i : ℕ) where
   committed = commit word-store (program-held p l) (state-of p h t) (remaining p (instruction-after p i)) (instruction-held p i)
 
   unfoldable pub committed-heap : List ℕ
-  committed-heap = heap-of committed (position-after p h i)
+  committed-heap = heap-of committed
 
   unfoldable pub committed-text : List ℕ
   committed-text = committed .store .text

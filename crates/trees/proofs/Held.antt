@@ -8,6 +8,7 @@ use mir.Syntax.{w32}
 use mir.Val.{toZ}
 use Rattle.framed.specs.Tree.{Base, Expression, Slots, Instruction, Code, _then_}
 use Rattle.framed.specs.Paths.{Path, from-self, from-program}
+use Rattle.framed.specs.Machine.{following, first-of}
 use Rattle.tables.specs.declared.ExpressionEntry.{ExpressionEntry}
 use Rattle.tables.specs.declared.InstructionEntry.{InstructionEntry}
 use Rattle.tables.specs.Entries.{expression-of, expression-at, instruction-at}
@@ -166,7 +167,7 @@ module _ (p l : List ℕ) (w : WellFormed p l) where
       open-code i ∙ rw (instruction-same i lt, code-same (t .code) (instruction-after p i) (λ j e. stands-next p (t .code) i j (t .stands) e))
 
   pub one-level-held : OneLevel p l
-  unfolding program-held
+  unfolding program-held following first-of
   one-level-held =
       record {
         base = base-one;
@@ -178,6 +179,8 @@ module _ (p l : List ℕ) (w : WellFormed p l) where
         finished = finished-held;
         next = next-one;
         code = λ k lt. from-zero (λ k. remaining p (code-first p k)) Code.finished (codes p) k lt;
+        code-begins = λ k lt. from-zero (code-first p) 0 (codes p) k lt;
+        follows = λ i lt. from-zero (instruction-after p) 0 (instructions p) i lt;
         literal = λ k lt. from-zero (literal-bytes p l) [] (literals p) k lt;
         name = λ k lt. from-zero (name-bytes p) [] (names p) k lt;
       }

@@ -7,6 +7,7 @@ use lib.ListN.{getD}
 use Rattle.framed.specs.Tree.{Base, Expression, Slots, Instruction, Code, _then_}
 use Rattle.framed.specs.Paths.{Path}
 use Rattle.framed.specs.Program.{Program}
+use Rattle.framed.specs.Machine.{following, first-of}
 use Rattle.tables.specs.Entries.{expression-at, instruction-at}
 use Rattle.tables.specs.Fields.{names, name-length, name-byte, literals, literal-length, literal-byte, expressions, instructions, codes, code-first, program-slots, start}
 use Rattle.tables.specs.Fields.{expression-kind, slot-name, slot-after, instruction-after}
@@ -53,6 +54,8 @@ program-held p l =
       literals = list-from (literal-bytes p l) (literals p) 0;
       codes = list-from (λ k. remaining p (code-first p k)) (codes p) 0;
       instructions = list-from (instruction-held p) (instructions p) 0;
+      firsts = list-from (code-first p) (codes p) 0;
+      nexts = list-from (instruction-after p) (instructions p) 0;
       slots = slots-held p (program-slots p);
       start = start p;
     }
@@ -71,5 +74,8 @@ pub record OneLevel (p l : List ℕ) : Type 0 where
   pub next : (i : ℕ) → i < instructions p → remaining p (suc i) ≡ (instruction-held p i then remaining p (instruction-after p i))
   -- entries of the program's lists
   pub code : (k : ℕ) → k < codes p → getD (program-held p l .codes) k Code.finished ≡ remaining p (code-first p k)
+  -- the numbers of instructions are the places: where a code begins, and the place after an instruction
+  pub code-begins : (k : ℕ) → k < codes p → first-of (program-held p l) k ≡ code-first p k
+  pub follows : (i : ℕ) → i < instructions p → following (program-held p l) (suc i) ≡ instruction-after p i
   pub literal : (k : ℕ) → k < literals p → getD (program-held p l .literals) k [] ≡ literal-bytes p l k
   pub name : (k : ℕ) → k < names p → getD (program-held p l .names) k [] ≡ name-bytes p k

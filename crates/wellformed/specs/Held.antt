@@ -11,6 +11,7 @@ unfoldable pub state-held : List ℕ → List ℕ → List ℕ → State
 state-held p h t =
     record {
       remaining = remaining p (position h);
+      next = position h;
       self = self-held h;
       program = program-held h;
       heap = heap-held h t;

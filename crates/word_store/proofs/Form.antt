@@ -17,7 +17,7 @@ use Rattle.state_form.proofs.Facts.{well-formed-sized}
 use Rattle.state_form.proofs.Kept.{text-stays}
 use Rattle.word_store.specs.Store.{clear-header}
 use Rattle.word_store.specs.Form.{StoreFormed, RestFormed, StateParts}
-use Rattle.word_store.proofs.Header.{low-frame-word, low-frame-used, low-count, low-name, low-tag, low-number, low-text-word, low-text-used, clear-local, clear-word}
+use Rattle.word_store.proofs.Header.{low-frame-word, low-frame-used, low-count, low-maker, low-name, low-tag, low-number, low-text-word, low-text-used, clear-local, clear-word}
 
 pub state-store : {h t : List ℕ} {l : Limits} → StateWellFormed h t l → StoreFormed h t l
 state-store w = record { heap-size = w .heap-size; text-size = w .text-size; flag = w .flag; frame = w .frame; text = w .text }
@@ -56,6 +56,7 @@ record SameCounts (l m : Limits) : Type 0 where
   names : l .names ≡ m .names
   literals : l .literals ≡ m .literals
   codes : l .codes ≡ m .codes
+  instructions : l .instructions ≡ m .instructions
 
 module _ {a b : ℕ} {h h′ : List ℕ} (c : Local a b h h′) (low : b ≤ 128) {l m : Limits} (s : SameCounts l m) where
   value-moved : (tag n : ℕ) → ValueFormed h l tag n → ValueFormed h′ m tag n
@@ -70,6 +71,7 @@ module _ {a b : ℕ} {h h′ : List ℕ} (c : Local a b h h′) (low : b ≤ 128
   frame-moved : (f : ℕ) → FrameFormed h l f → FrameFormed h′ m f
   frame-moved f o = record {
     few = rw (low-count c low f) (o .few);
+    maker = rw (low-maker c low f, ← s .instructions) (o .maker);
     slot = λ i lt.
         let x = o .slot i (rw (low-count c low f) at lt) in
         record {
@@ -98,7 +100,7 @@ local-back c = record { size = sym (c .size); away = λ k n. sym (c .away k n) }
 module _ {h t : List ℕ} {l : Limits} where
   pub store-cleared : StoreFormed h t l → StateWellFormed (clear-header h) t (wide l)
   unfolding frames-in-use texts-in-use position end-mark
-  store-cleared w = state-whole (store-moved (clear-local h) (omega arith) (record { names = refl; literals = refl; codes = refl }) t w) (record {
+  store-cleared w = state-whole (store-moved (clear-local h) (omega arith) (record { names = refl; literals = refl; codes = refl; instructions = refl }) t w) (record {
     self = rw (cleared 0 (omega arith)) (integer (word (clear-header h) 1));
     program = rw (cleared 2 (omega arith)) (integer (word (clear-header h) 3));
     frames-few = passing-below (frame-used (clear-header h)) 256;
@@ -120,19 +122,19 @@ module _ {h t : List ℕ} {l : Limits} where
       }
 
   pub cleared-store : StateWellFormed (clear-header h) t (wide l) → StoreFormed h t l
-  cleared-store w = store-moved (local-back (clear-local h)) (omega arith) (record { names = refl; literals = refl; codes = refl }) t (state-store w)
+  cleared-store w = store-moved (local-back (clear-local h)) (omega arith) (record { names = refl; literals = refl; codes = refl; instructions = refl }) t (state-store w)
 
 -- a store, its header cleared or not
 module _ {h t : List ℕ} {l : Limits} where
   pub clear-store : StoreFormed h t l → StoreFormed (clear-header h) t l
-  clear-store w = store-moved (clear-local h) (omega arith) (record { names = refl; literals = refl; codes = refl }) t w
+  clear-store w = store-moved (clear-local h) (omega arith) (record { names = refl; literals = refl; codes = refl; instructions = refl }) t w
 
   pub unclear-store : StoreFormed (clear-header h) t l → StoreFormed h t l
-  unclear-store w = store-moved (local-back (clear-local h)) (omega arith) (record { names = refl; literals = refl; codes = refl }) t w
+  unclear-store w = store-moved (local-back (clear-local h)) (omega arith) (record { names = refl; literals = refl; codes = refl; instructions = refl }) t w
 
 -- what a state with the wide limits has as a store, its header cleared
 pub wide-cleared : {h t : List ℕ} {l : Limits} → StateWellFormed h t (wide l) → StoreFormed (clear-header h) t l
-wide-cleared {h} {t} w = store-moved (clear-local h) (omega arith) (record { names = refl; literals = refl; codes = refl }) t (state-store w)
+wide-cleared {h} {t} w = store-moved (clear-local h) (omega arith) (record { names = refl; literals = refl; codes = refl; instructions = refl }) t (state-store w)
 
 pub store-sized : {h t : List ℕ} {l : Limits} → StoreFormed h t l → Sized h
 store-sized {h} w = low-sized (local-back (clear-local h)) (well-formed-sized (store-cleared w)) (omega arith)

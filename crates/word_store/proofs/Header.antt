@@ -12,8 +12,8 @@ use lib.Dec.{leb, ltb}
 use Rattle.words.specs.Words.{pick, word, set-word}
 use Rattle.words.proofs.Laws.{set-size, word-other, word-same}
 use Rattle.framed.specs.declared.Value.{Value}
-use Rattle.framed.specs.Values.{Slot, new-frame}
-use Rattle.heap.specs.Words.{value-of, number-of, self-held, program-held, frame-word, frame-used, slot-count-at, slot-name-at, slot-tag-at, slot-number-at, slot-value-at, text-word, text-used}
+use Rattle.framed.specs.Values.{new-frame}
+use Rattle.heap.specs.Words.{value-of, number-of, self-held, program-held, frame-word, frame-used, slot-count-at, maker-at, slot-name-at, slot-tag-at, slot-number-at, slot-value-at, text-word, text-used}
 use Rattle.heap.specs.Words.{set-self, set-program, set-slot-value, add-slot-at, add-slot, take-frame, free-frame, take-text, free-text}
 use Rattle.heap.specs.Lists.{listed}
 use Rattle.heap.specs.Held.{slot-held, slots-held, frame-held, text-held, frames-held, texts-held, heap-held}
@@ -46,6 +46,10 @@ module _ {a b : ℕ} {h h′ : List ℕ} (c : Local a b h h′) (low : b ≤ 128
   pub low-count : (f : ℕ) → slot-count-at h′ f ≡ slot-count-at h f
   unfolding slot-count-at
   low-count f = low-word (129 + 51 * f) (omega arith)
+
+  pub low-maker : (f : ℕ) → maker-at h′ f ≡ maker-at h f
+  unfolding maker-at
+  low-maker f = low-word (130 + 51 * f) (omega arith)
 
   pub low-name : (f i : ℕ) → slot-name-at h′ f i ≡ slot-name-at h f i
   unfolding slot-name-at
@@ -86,7 +90,7 @@ module _ {a b : ℕ} {h h′ : List ℕ} (c : Local a b h h′) (low : b ≤ 128
       }
     where
       frames : frames-held h′ ≡ frames-held h
-      frames = listed-same (frame-held h) (frame-held h′) 256 (λ f lt. ap₂ (λ (u : Bool) (ss : List Slot). new-frame (pick u ss [])) (low-frame-used f) (low-slots f))
+      frames = listed-same (frame-held h) (frame-held h′) 256 (λ f lt i. new-frame (pick (low-frame-used f i) (low-maker f i) 0) (pick (low-frame-used f i) (low-slots f i) []))
 
       texts : texts-held h′ t ≡ texts-held h t
       texts = listed-same (text-held h t) (text-held h′ t) 256 (λ k lt. text-same h h′ t k (text-length-word h h′ k (low-text-word k)))
@@ -162,13 +166,15 @@ clear-set h k x le =
 -- ---- The updaters of frames and texts
 
 module _ (h : List ℕ) where
-  pub clear-take-frame : (f : ℕ) → clear-header (take-frame h f) ≡ take-frame (clear-header h) f
+  pub clear-take-frame : (f m : ℕ) → clear-header (take-frame h f m) ≡ take-frame (clear-header h) f m
   unfolding take-frame
-  clear-take-frame f = clear-set _ _ _ (omega arith) ∙ ap (λ (l : List ℕ). set-word l (129 + 51 * f) 0) (clear-set h _ _ (omega arith))
+  clear-take-frame f m =
+      clear-set _ _ _ (omega arith)
+      ∙ ap (λ (l : List ℕ). set-word l (130 + 51 * f) m) (clear-set _ _ _ (omega arith) ∙ ap (λ (l : List ℕ). set-word l (129 + 51 * f) 0) (clear-set h _ _ (omega arith)))
 
-  pub clear-claim-frame : clear-header (claim-frame h) ≡ claim-frame (clear-header h)
+  pub clear-claim-frame : (m : ℕ) → clear-header (claim-frame h m) ≡ claim-frame (clear-header h) m
   unfolding claim-frame
-  clear-claim-frame = clear-take-frame (next-frame h) ∙ ap (take-frame (clear-header h)) (sym (low-next-frame (clear-local h) (omega arith)))
+  clear-claim-frame m = clear-take-frame (next-frame h) m ∙ ap (λ (f : ℕ). take-frame (clear-header h) f m) (sym (low-next-frame (clear-local h) (omega arith)))
 
   pub clear-set-slot : (f i : ℕ) (v : Value) → clear-header (set-slot-value h f i v) ≡ set-slot-value (clear-header h) f i v
   unfolding set-slot-value

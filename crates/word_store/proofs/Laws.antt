@@ -14,7 +14,7 @@ use Rattle.framed.specs.Values.{Frame, new-frame, with-slots}
 use Rattle.framed.specs.Fetch.{in-frame}
 use Rattle.framed.specs.Reach.{slot-value, values-in}
 use Rattle.framed.specs.Machine.{set-slot, holds}
-use Rattle.heap.specs.Words.{self-held, program-held, slot-count-at, slot-tag-at, slot-number-at, slot-value-at, text-length, text-byte, set-self, add-slot, take-frame}
+use Rattle.heap.specs.Words.{self-held, program-held, slot-count-at, maker-at, slot-tag-at, slot-number-at, slot-value-at, text-length, text-byte, set-self, add-slot, take-frame}
 use Rattle.heap.specs.Held.{slots-held, text-held, heap-held, frames-held, frames-in-use, texts-in-use}
 use Rattle.heap.specs.Closed.{FrameInUse}
 use Rattle.heap.proofs.Lists.{listed-from}
@@ -42,7 +42,7 @@ use Rattle.state_form.proofs.Facts.{well-formed-closed}
 use Rattle.state_form.proofs.Kept.{set-self-formed, set-program-formed, take-frame-formed, add-slot-formed}
 use Rattle.word_store.specs.Store.{clear-header, rooted, claim-frame, write-text, claim-text, collect-rooted, word-store}
 use Rattle.word_store.specs.Form.{StoreFormed, LimitsOf}
-use Rattle.word_store.proofs.Header.{low-frame-used, low-count, low-slots, low-text-used, low-view, clear-local, clear-take-frame, clear-add-slot, clear-put-slot, clear-take-text, self-in, rooted-local, rooted-self, rooted-program}
+use Rattle.word_store.proofs.Header.{low-frame-used, low-count, low-maker, low-slots, low-text-used, low-view, clear-local, clear-take-frame, clear-add-slot, clear-put-slot, clear-take-text, self-in, rooted-local, rooted-self, rooted-program}
 use Rattle.word_store.proofs.Form.{wide, store-cleared, cleared-store, wide-cleared, store-sized}
 use Rattle.word_store.proofs.Values.{FrameShown, frame-shown, text-shown, Named, valid-named, formed-valid}
 use Rattle.word_store.proofs.Written.{frame-written, frame-rewritten}
@@ -51,7 +51,7 @@ use Rattle.word_store.proofs.Put.{absent-name, put-formed}
 
 module _ (l : Limits) (q : Program) (limits : LimitsOf l q) where
   wide-limits : LimitsOf (wide l) q
-  wide-limits = record { names = limits .names; literals = limits .literals; codes = limits .codes }
+  wide-limits = record { names = limits .names; literals = limits .literals; codes = limits .codes; instructions = limits .instructions }
 
   module _ (h t : List ℕ) (w : StoreFormed h t l) where
     -- ---- What is there
@@ -68,7 +68,7 @@ module _ (l : Limits) (q : Program) (limits : LimitsOf l q) where
     unfolding values-in slot-value-at
     values-valid n f e v m =
         let s = frame-shown h t n f e in
-        let i = in-slot-from h n v (rw (held.frame-at h n (new-frame []) (s .in-use .small), frame-of-used h n (s .in-use .used)) (rw (s .is) at m)) in
+        let i = in-slot-from h n v (rw (held.frame-at h n (new-frame 0 []) (s .in-use .small), frame-of-used h n (s .in-use .used)) (rw (s .is) at m)) in
         subst (λ (x : Value). Valid q (view-held h t) x) (i .value)
         (formed-valid h t l q limits (slot-tag-at h n (i .slot)) (slot-number-at h n (i .slot)) (w .frame n (s .in-use) .slot (i .slot) (i .inside) .value))
 
@@ -103,16 +103,16 @@ module _ (l : Limits) (q : Program) (limits : LimitsOf l q) where
     low-named : {a b : ℕ} {h′ : List ℕ} → Local a b h h′ → b ≤ 128 → {v : Value} → Valid q (view-held h t) v → Named h′ (wide l) v
     low-named {h′ = h′} c low {v} ok = valid-named h′ t (wide l) q wide-limits (subst (λ (H : View). Valid q H v) (sym (low-view c low t)) ok)
 
-    module _ (room : frames-used (view-held h t) < entries) where
-      pub claim-frame-formed : StoreFormed (claim-frame h) t l
+    module _ (room : frames-used (view-held h t) < entries) (m : ℕ) where
+      pub claim-frame-formed : m ≤ length (q .instructions) → StoreFormed (claim-frame h m) t l
       unfolding claim-frame
-      claim-frame-formed =
+      claim-frame-formed made =
           let few = free-frames room in
-          cleared-store (subst (λ (x : List ℕ). StateWellFormed x t (wide l)) (sym (clear-take-frame h (next-frame h)))
-          (take-frame-formed (clear-header h) t (wide l) (store-cleared w) (next-frame h) (next-frame-below h few)
+          cleared-store (subst (λ (x : List ℕ). StateWellFormed x t (wide l)) (sym (clear-take-frame h (next-frame h) m))
+          (take-frame-formed (clear-header h) t (wide l) (store-cleared w) (next-frame h) m (next-frame-below h few) (rw (limits .instructions) made)
           (low-frame-used (clear-local h) (omega arith) (next-frame h) ∙ next-frame-free h few) (rw clear-frames few)))
 
-      pub claim-frame-claims : FrameClaimed (view-held h t) (view-held (claim-frame h) t) (next-frame h)
+      pub claim-frame-claims : FrameClaimed (view-held h t) (view-held (claim-frame h m) t) (next-frame h) m
       unfolding claim-frame entries
       claim-frame-claims =
           let few = free-frames room in
@@ -121,9 +121,9 @@ module _ (l : Limits) (q : Program) (limits : LimitsOf l q) where
           record {
             below = hf;
             free = shows-no-frame h t (next-frame h) (next-frame-free h few);
-            written = frame-written h (take-frame h (next-frame h)) t (next-frame h) (new-frame []) hf
-                (take-frame-frames h s (next-frame h) hf) (take-frame-texts h s (next-frame h) hf)
-                (take-frame-used h (next-frame h) (w .heap-size) hf) (λ g ne lt. take-frame-others h s (next-frame h) hf g ne);
+            written = frame-written h (take-frame h (next-frame h) m) t (next-frame h) (new-frame m []) hf
+                (take-frame-frames h s (next-frame h) m hf) (take-frame-texts h s (next-frame h) m hf)
+                (take-frame-used h (next-frame h) m (w .heap-size) hf) (λ g ne lt. take-frame-others h s (next-frame h) m hf g ne);
           }
 
     -- ---- A new text
@@ -182,7 +182,7 @@ module _ (l : Limits) (q : Program) (limits : LimitsOf l q) where
             (add-slot-texts h s n (u .small) (u .used) x v room-there) (u .used) (add-slot-in-use h s n (u .small) (u .used) x v room-there))
 
       module _ (place : (holds f x || ltb (length (f .slots)) 16) ≡ true) where
-        place-there : has-place (new-frame (slots-held h n)) x ≡ true
+        place-there : has-place (new-frame (maker-at h n) (slots-held h n)) x ≡ true
         unfolding has-place
         place-there = rw (at-frame .is) at place
 
@@ -190,7 +190,7 @@ module _ (l : Limits) (q : Program) (limits : LimitsOf l q) where
         assign-formed =
             cleared-store (subst (λ (y : List ℕ). StateWellFormed y t (wide l)) (sym (clear-put-slot h n x v))
             (put-formed (clear-header h) n x t (wide l) (store-cleared w) (clear-in-use n (at-frame .in-use)) v (rw (limits .names) name) (cleared-named .in-use) (cleared-named .there)
-            (rw (low-slots (clear-local h) (omega arith) n) place-there)))
+            (rw (low-maker (clear-local h) (omega arith) n, low-slots (clear-local h) (omega arith) n) place-there)))
 
         pub assign-written : FrameWritten (view-held h t) (view-held (put-slot h n x v) t) n (with-slots f (set-slot (f .slots) x v))
         assign-written =
@@ -294,7 +294,7 @@ module _ (l : Limits) (q : Program) (limits : LimitsOf l q) where
         bytes-valid = λ s w. bytes-valid (s .heap) (s .text) w;
         frame-count-is = λ s w. frames-counted (s .heap) (s .text);
         text-count-is = λ s w. texts-counted (s .heap) (s .text);
-        claim-frame-is = λ s w room. (claim-frame-formed (s .heap) (s .text) w room, claim-frame-claims (s .heap) (s .text) w room);
+        claim-frame-is = λ s w room m made. (claim-frame-formed (s .heap) (s .text) w room m made, claim-frame-claims (s .heap) (s .text) w room m);
         claim-text-is = λ s w room bs short string. (claim-text-formed (s .heap) (s .text) w room bs short string, claim-text-claims (s .heap) (s .text) w room bs short);
         push-is = λ s w n x v f there few name new ok.
             (push-formed (s .heap) (s .text) w n x v f there name ok few new, push-written (s .heap) (s .text) w n x v f there name ok few);

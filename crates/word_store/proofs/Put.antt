@@ -13,7 +13,7 @@ use Rattle.framed.specs.declared.Value.{Value}
 use Rattle.framed.specs.Values.{Slot, new-frame}
 use Rattle.framed.specs.Fetch.{in-slots}
 use Rattle.framed.proofs.General.{some≢none}
-use Rattle.heap.specs.Words.{slot-count-at, slot-name-at}
+use Rattle.heap.specs.Words.{slot-count-at, maker-at, slot-name-at}
 use Rattle.heap.specs.Held.{slot-held, slots-held}
 use Rattle.heap.specs.Closed.{FrameInUse, NamesInUse}
 use Rattle.heap.proofs.Held.{slots-length, slot-at}
@@ -48,7 +48,7 @@ module _ (h : List ℕ) (f x : ℕ) where
       (ap (λ (s : Slot). s .name) (slot-at h f j (slot-held h f j) lt) ∙ p)
 
   module _ (t : List ℕ) (l : Limits) (w : StateWellFormed h t l) (u : FrameInUse h f) (v : Value) (named : x < l .names) (n : NamesInUse h v) (o : NamesThere l v) where
-    pub put-formed : has-place (new-frame (slots-held h f)) x ≡ true → StateWellFormed (put-slot h f x v) t l
+    pub put-formed : has-place (new-frame (maker-at h f) (slots-held h f)) x ≡ true → StateWellFormed (put-slot h f x v) t l
     unfolding put-slot
     put-formed ok = go (slot-from (slots-held h f) x 0) refl
       where
@@ -60,5 +60,5 @@ module _ (h : List ℕ) (f x : ℕ) where
         go SlotFound.Missing e =
             let m = slot-miss (slots-held h f) x SlotFound.Missing e refl .value in
             let c = slots-length h f in
-            let r : length (slots-held h f) < 16 = ltb-true (length (slots-held h f)) 16 (sym (place-none (slots-held h f) x m) ∙ ok) in
+            let r : length (slots-held h f) < 16 = ltb-true (length (slots-held h f)) 16 (sym (place-none (maker-at h f) (slots-held h f) x m) ∙ ok) in
             add-slot-formed h t l w f u x v (omega arith) named (absent-name m) n o

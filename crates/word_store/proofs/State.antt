@@ -37,6 +37,7 @@ module _ (l : Limits) (q : Program) (limits : LimitsOf l q) (remaining-from : �
       self = rw clear-view (formed-valid h t l q limits (word h 0) (word h 1) (w .self));
       program = rw clear-view (formed-valid h t l q limits (word h 2) (word h 3) (w .program));
       remaining = fits (position h) (w .position-there);
+      next = rw (← limits .instructions) (w .position-there);
       mark = w .end;
       frames-few = rw (clear-view, ← frames-counted h t) (w .frames-few);
       texts-few = rw (clear-view, ← texts-counted h t) (w .texts-few);

@@ -41,9 +41,9 @@ keeps-all h = record { agree = λ k lo hi. refl }
 keeps-set : {h h′ : List ℕ} → KeepsHeader h h′ → (k x : ℕ) → 6 ≤ k → KeepsHeader h (set-word h′ k x)
 keeps-set s k x le = record { agree = λ j lo hi. word-other _ _ _ _ _ (omega arith) (s .agree j lo hi) }
 
-pub keeps-claim : (h : List ℕ) → KeepsHeader h (claim-frame h)
+pub keeps-claim : (h : List ℕ) (m : ℕ) → KeepsHeader h (claim-frame h m)
 unfolding claim-frame take-frame
-keeps-claim h = keeps-set (keeps-set (keeps-all h) _ _ (omega arith)) _ _ (omega arith)
+keeps-claim h m = keeps-set (keeps-set (keeps-set (keeps-all h) _ _ (omega arith)) _ _ (omega arith)) _ _ (omega arith)
 
 module _ {h h′ : List ℕ} (s : KeepsHeader h h′) where
   keeps-slot : (f i : ℕ) (v : Value) → KeepsHeader h (set-slot-value h′ f i v)
@@ -107,18 +107,18 @@ module _ (remaining-from : ℕ → Code Path) (h t : List ℕ) where
   }
 
   -- the parts of the state, one by one
-  state-is : (h′ t′ : List ℕ) {s : Memories} {v u : Value} {is : Code Path} {e : ℕ} → store-held h′ t′ ≡ s → self-held h′ ≡ v → program-held h′ ≡ u →
-      remaining-from (position h′) ≡ is → end-mark h′ ≡ e →
-      _≡_ {A = Bounded Memories} (state-held remaining-from h′ t′) (record { store = s; self = v; program = u; remaining = is; end-mark = e })
+  state-is : (h′ t′ : List ℕ) {s : Memories} {v u : Value} {n e : ℕ} → store-held h′ t′ ≡ s → self-held h′ ≡ v → program-held h′ ≡ u →
+      position h′ ≡ n → end-mark h′ ≡ e →
+      _≡_ {A = Bounded Memories} (state-held remaining-from h′ t′) (record { store = s; self = v; program = u; remaining = remaining-from n; next = n; end-mark = e })
   unfolding state-held
-  state-is h′ t′ a b c d f = λ i. record { store = a i; self = b i; program = c i; remaining = d i; end-mark = f i }
+  state-is h′ t′ a b c d f = λ i. record { store = a i; self = b i; program = c i; remaining = remaining-from (d i); next = d i; end-mark = f i }
 
   -- another store under the same header
   over : (h′ t′ : List ℕ) → KeepsHeader h h′ → {s : Memories} → store-held h′ t′ ≡ s → state-held remaining-from h′ t′ ≡ over-store (state-held remaining-from h t) s
   unfolding state-held
   over h′ t′ k e =
       state-is h′ t′ e (same-self (same-part k 0 2 (omega arith) (omega arith))) (same-program (same-part k 2 4 (omega arith) (omega arith)))
-      (ap remaining-from (same-position (same-part k 4 5 (omega arith) (omega arith)))) (same-end-mark (same-part k 5 6 (omega arith) (omega arith)))
+      (same-position (same-part k 4 5 (omega arith) (omega arith))) (same-end-mark (same-part k 5 6 (omega arith) (omega arith)))
 
   module _ (size : length h ≡ 16384) where
     same-store : {a b : ℕ} {h′ : List ℕ} → Local a b h h′ → b ≤ 6 → store-held h′ t ≡ store-held h t
@@ -130,36 +130,36 @@ module _ (remaining-from : ℕ → Code Path) (h t : List ℕ) where
     after-self v f =
         let c = set-self-local h size v in
         state-is (set-self h v) t (same-store c (omega arith)) (set-self-self h size v f) (same-program (local-same c 2 4 (λ k lo hi lo′ hi′. omega arith)))
-        (ap remaining-from (same-position (local-same c 4 5 (λ k lo hi lo′ hi′. omega arith)))) (same-end-mark (local-same c 5 6 (λ k lo hi lo′ hi′. omega arith)))
+        (same-position (local-same c 4 5 (λ k lo hi lo′ hi′. omega arith))) (same-end-mark (local-same c 5 6 (λ k lo hi lo′ hi′. omega arith)))
 
     after-program : (v : Value) → ValueFits v → state-held remaining-from (set-program h v) t ≡ with-program v (state-held remaining-from h t)
     unfolding state-held
     after-program v f =
         let c = set-program-local h size v in
         state-is (set-program h v) t (same-store c (omega arith)) (same-self (local-same c 0 2 (λ k lo hi lo′ hi′. omega arith))) (set-program-program h size v f)
-        (ap remaining-from (same-position (local-same c 4 5 (λ k lo hi lo′ hi′. omega arith)))) (same-end-mark (local-same c 5 6 (λ k lo hi lo′ hi′. omega arith)))
+        (same-position (local-same c 4 5 (λ k lo hi lo′ hi′. omega arith))) (same-end-mark (local-same c 5 6 (λ k lo hi lo′ hi′. omega arith)))
 
-    after-position : (i : ℕ) → state-held remaining-from (set-position h i) t ≡ with-remaining (remaining-from i) (state-held remaining-from h t)
+    after-position : (i : ℕ) → state-held remaining-from (set-position h i) t ≡ with-remaining (remaining-from i) i (state-held remaining-from h t)
     unfolding state-held
     after-position i =
         let c = set-position-local h size i in
         state-is (set-position h i) t (same-store c (omega arith)) (same-self (local-same c 0 2 (λ k lo hi lo′ hi′. omega arith))) (same-program (local-same c 2 4 (λ k lo hi lo′ hi′. omega arith)))
-        (ap remaining-from (set-position-position h size i)) (same-end-mark (local-same c 5 6 (λ k lo hi lo′ hi′. omega arith)))
+        (set-position-position h size i) (same-end-mark (local-same c 5 6 (λ k lo hi lo′ hi′. omega arith)))
 
     after-end : (e : ℕ) → state-held remaining-from (set-end-mark h e) t ≡ with-mark e (state-held remaining-from h t)
     unfolding state-held with-mark
     after-end e =
         let c = set-end-local h size e in
         state-is (set-end-mark h e) t (same-store c (omega arith)) (same-self (local-same c 0 2 (λ k lo hi lo′ hi′. omega arith))) (same-program (local-same c 2 4 (λ k lo hi lo′ hi′. omega arith)))
-        (ap remaining-from (same-position (local-same c 4 5 (λ k lo hi lo′ hi′. omega arith)))) (set-end-end h size e)
+        (same-position (local-same c 4 5 (λ k lo hi lo′ hi′. omega arith))) (set-end-end h size e)
 
     after-collect : state-held remaining-from (collect-heap h .words) t ≡ collected word-store (state-held remaining-from h t)
     unfolding state-held store-held collected
     after-collect = over (collect-heap h .words) t (keeps-collect h) (ap (λ (x : List ℕ). memories x t) (clear-collect h size))
 
-  after-frame : state-held remaining-from (claim-frame h) t ≡ over-store (state-held remaining-from h t) (word-store .claim-frame (state-held remaining-from h t .store))
+  after-frame : (m : ℕ) → state-held remaining-from (claim-frame h m) t ≡ over-store (state-held remaining-from h t) (word-store .claim-frame (state-held remaining-from h t .store) m)
   unfolding state-held store-held
-  after-frame = over (claim-frame h) t (keeps-claim h) (ap (λ (x : List ℕ). memories x t) (clear-claim-frame h))
+  after-frame m = over (claim-frame h m) t (keeps-claim h m) (ap (λ (x : List ℕ). memories x t) (clear-claim-frame h m))
 
   after-push : (n x : ℕ) (v : Value) → state-held remaining-from (add-slot h n x v) t ≡ over-store (state-held remaining-from h t) (word-store .push (state-held remaining-from h t .store) n x v)
   unfolding state-held store-held
@@ -252,7 +252,7 @@ module _ (h : List ℕ) (l : Limits) (size : length h ≡ 16384) (o : HeaderForm
     program = header-program;
     position = header-position;
     end-mark = header-end;
-    frame = header-kept (keeps-claim h);
+    frame = λ m. header-kept (keeps-claim h m);
     push = λ n x v. header-kept (keeps-add h n x v);
     assign = λ n x v. header-kept (keeps-put h n x v);
     text = λ k n. header-kept (keeps-text h k n);

@@ -16,7 +16,7 @@ use Rattle.framed.specs.Tokens.{in-range}
 use Rattle.framed.specs.Program.{Program}
 use Rattle.framed.specs.Values.{Frame, new-frame}
 use Rattle.framed.proofs.General.{none≢some, some-inj}
-use Rattle.heap.specs.Words.{value-of, frame-used, text-used}
+use Rattle.heap.specs.Words.{value-of, frame-used, maker-at, text-used}
 use Rattle.heap.specs.Held.{slots-held, text-held}
 use Rattle.heap.specs.Closed.{ValueFits, FrameInUse, TextInUse, NamesInUse}
 use Rattle.heap.proofs.Laws.{value-case}
@@ -33,7 +33,7 @@ use Rattle.word_store.specs.Form.{LimitsOf, ValuesAgree}
 
 pub record FrameShown (h : List ℕ) (n : ℕ) (f : Frame) : Type 0 where
   pub in-use : FrameInUse h n
-  pub is : f ≡ new-frame (slots-held h n)
+  pub is : f ≡ new-frame (maker-at h n) (slots-held h n)
 
 pub record TextShown (h t : List ℕ) (k : ℕ) (bs : List ℕ) : Type 0 where
   pub in-use : TextInUse h k

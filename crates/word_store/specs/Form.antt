@@ -40,6 +40,7 @@ pub record LimitsOf (l : Limits) (q : Program) : Type 0 where
   pub names : l .names ≡ length (q .names)
   pub literals : l .literals ≡ length (q .literals)
   pub codes : l .codes ≡ length (q .codes)
+  pub instructions : l .instructions ≡ length (q .instructions)
 
 -- a tag and a number are well-formed exactly where the tag is one and the value is valid (a tag above 4 would be read as a frame's)
 abbrev pub ValuesAgree : Type 0

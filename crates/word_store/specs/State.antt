@@ -34,19 +34,21 @@ state-held remaining-from h t =
       self = self-held h;
       program = program-held h;
       remaining = remaining-from (position h);
+      next = position h;
       end-mark = end-mark h;
     }
 
 -- ---- The state held after each updater
 
 abbrev pub with-self : Value → Bounded Memories → Bounded Memories
-with-self v b = record { store = b .store; self = v; program = b .program; remaining = b .remaining; end-mark = b .end-mark }
+with-self v b = record { store = b .store; self = v; program = b .program; remaining = b .remaining; next = b .next; end-mark = b .end-mark }
 
 abbrev pub with-program : Value → Bounded Memories → Bounded Memories
-with-program v b = record { store = b .store; self = b .self; program = v; remaining = b .remaining; end-mark = b .end-mark }
+with-program v b = record { store = b .store; self = b .self; program = v; remaining = b .remaining; next = b .next; end-mark = b .end-mark }
 
-abbrev pub with-remaining : Code Path → Bounded Memories → Bounded Memories
-with-remaining is b = record { store = b .store; self = b .self; program = b .program; remaining = is; end-mark = b .end-mark }
+-- at the instruction n, with these remaining
+abbrev pub with-remaining : Code Path → ℕ → Bounded Memories → Bounded Memories
+with-remaining is n b = record { store = b .store; self = b .self; program = b .program; remaining = is; next = n; end-mark = b .end-mark }
 
 module _ (remaining-from : ℕ → Code Path) (h t : List ℕ) where
   abbrev now : Bounded Memories
@@ -64,9 +66,9 @@ module _ (remaining-from : ℕ → Code Path) (h t : List ℕ) where
   pub record HeldAfter : Type 0 where
     pub self : (v : Value) → ValueFits v → state-held remaining-from (set-self h v) t ≡ with-self v now
     pub program : (v : Value) → ValueFits v → state-held remaining-from (set-program h v) t ≡ with-program v now
-    pub position : (i : ℕ) → state-held remaining-from (set-position h i) t ≡ with-remaining (remaining-from i) now
+    pub position : (i : ℕ) → state-held remaining-from (set-position h i) t ≡ with-remaining (remaining-from i) i now
     pub end-mark : (e : ℕ) → state-held remaining-from (set-end-mark h e) t ≡ with-mark e now
-    pub frame : state-held remaining-from (claim-frame h) t ≡ over-store now (word-store .claim-frame (now .store))
+    pub frame : (m : ℕ) → state-held remaining-from (claim-frame h m) t ≡ over-store now (word-store .claim-frame (now .store) m)
     pub push : (n x : ℕ) (v : Value) → state-held remaining-from (add-slot h n x v) t ≡ over-store now (word-store .push (now .store) n x v)
     pub assign : (n x : ℕ) (v : Value) → state-held remaining-from (put-slot h n x v) t ≡ over-store now (word-store .assign (now .store) n x v)
     pub text : (bs : List ℕ) →
@@ -87,7 +89,7 @@ pub record HeaderAfter (h : List ℕ) (l : Limits) : Type 0 where
   pub program : (v : Value) → HeaderFormed (set-program h v) l
   pub position : (i : ℕ) → i ≤ l .instructions → HeaderFormed (set-position h i) l
   pub end-mark : (e : ℕ) → HeaderFormed (set-end-mark h e) l
-  pub frame : HeaderFormed (claim-frame h) l
+  pub frame : (m : ℕ) → HeaderFormed (claim-frame h m) l
   pub push : (n x : ℕ) (v : Value) → HeaderFormed (add-slot h n x v) l
   pub assign : (n x : ℕ) (v : Value) → HeaderFormed (put-slot h n x v) l
   pub text : (k n : ℕ) → HeaderFormed (take-text h k n) l

@@ -32,8 +32,9 @@ rooted h Σ Π = set-program (set-self (clear-header h) Σ) Π
 
 -- ---- The operations
 
-unfoldable pub claim-frame : List ℕ → List ℕ
-claim-frame h = take-frame h (allocation.next-frame h)
+-- a frame of the maker m
+unfoldable pub claim-frame : List ℕ → ℕ → List ℕ
+claim-frame h m = take-frame h (allocation.next-frame h) m
 
 -- the bytes bs, one by one, as the bytes of text k from byte i on
 unfoldable pub write-text : List ℕ → ℕ → ℕ → List ℕ → List ℕ
@@ -52,7 +53,7 @@ word-store =
     record {
       view = λ s. allocation.view-held (s .heap) (s .text);
       next-frame = λ s. allocation.next-frame (s .heap);
-      claim-frame = λ s. memories (claim-frame (s .heap)) (s .text);
+      claim-frame = λ s m. memories (claim-frame (s .heap) m) (s .text);
       push = λ s n x v. memories (add-slot (s .heap) n x v) (s .text);
       assign = λ s n x v. memories (put-slot (s .heap) n x v) (s .text);
       next-text = λ s. allocation.next-text (s .heap);

@@ -11,8 +11,8 @@ use Rattle.framed.specs.Meaning.{Lengths, right-lengths, refusal}
 use Rattle.framed.specs.Program.{Program, program}
 use Rattle.framed.specs.Writer.{text, text-tokens}
 
--- It is read in its tokens and has the same program: names, literals, codes, instructions, slots and start. Where it has at most 16,384 bytes it is accepted too,
--- with memories of the right lengths
+-- It is read in its tokens and has the same program: names, literals, codes and instructions with their numbers, slots and start. Where it has at most
+-- 16,384 bytes it is accepted too, with memories of the right lengths
 pub record TextLoads (F T : ℕ) (p : Program) : Type 0 where
   pub in-tokens : tokens class (text p) ≡ some (text-tokens p)
   pub same-program : program (text p) ≡ some p

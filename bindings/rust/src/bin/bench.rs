@@ -4,7 +4,7 @@
 //!
 //! With a file it also writes the table between the lines `<!-- bench -->` and `<!-- end of bench -->` of that file, and a
 //! plot as `performance.svg` beside it. Build with the usual settings of the release profile; both are then optimised.
-use framed::{machine, plain, Memories, Refusal, RunReport, Stop};
+use framed::{machine, plain, Memories, Refusal, RunReport, Stop, MAKERS};
 use std::fmt::Write as _;
 use std::hint::black_box;
 use std::path::Path;
@@ -17,16 +17,24 @@ struct Calls {
     run: fn(&[u32], &mut [u32], &[u8], &mut [u8], u32, &mut [u8]) -> Result<RunReport, Refusal>,
     collect: fn(&[u32], &mut [u32], &[u8], &[u8]) -> Result<framed::Totals, Refusal>,
     look: fn(&[u32], &[u32], &[u8], &[u8], &[u8]) -> Result<framed::Found, Refusal>,
+    makers: fn(&[u32], &[u32], &[u8], &[u8], &mut [u32; MAKERS]) -> Result<(), Refusal>,
     write: fn(&[u32], &[u32], &[u8], &[u8], &mut [u8]) -> Result<usize, Refusal>,
 }
 
-const PLAIN: Calls =
-    Calls { load: plain::load, run: plain::run, collect: plain::collect, look: plain::look, write: plain::write };
+const PLAIN: Calls = Calls {
+    load: plain::load,
+    run: plain::run,
+    collect: plain::collect,
+    look: plain::look,
+    makers: plain::makers,
+    write: plain::write,
+};
 const PROVED: Calls = Calls {
     load: machine::load,
     run: machine::run,
     collect: machine::collect,
     look: machine::look,
+    makers: machine::makers,
     write: machine::write,
 };
 
@@ -284,6 +292,19 @@ const MEASURES: &[Measure] = &[
             calls.run(&mut m, 1_000, &mut [0; 256]);
             time(|| {
                 (calls.collect)(&m.program, &mut m.heap, &m.literals, &m.texts).expect("whole memories");
+            })
+        },
+    },
+    Measure {
+        name: "makers, drive model",
+        item: "call",
+        seconds: |calls| {
+            let mut m = calls.loaded(DRIVE, 256);
+            calls.run(&mut m, 1_000, &mut [0; 256]);
+            let mut counts = [0; MAKERS];
+            time(|| {
+                let counts = black_box(&mut counts);
+                (calls.makers)(&m.program, &m.heap, &m.literals, &m.texts, counts).expect("whole memories");
             })
         },
     },

@@ -1,6 +1,7 @@
-//! The collector: mark what self and program reach, then take everything else out of use.
+//! The collector: mark what self and program reach, then take everything else out of use. And who made the frames that
+//! are reached.
 use super::heap::{self, Heap, Value};
-use crate::Totals;
+use crate::{Totals, MAKERS};
 
 struct Marks {
     frames: [bool; heap::FRAMES as usize],
@@ -22,8 +23,8 @@ impl Marks {
     }
 }
 
-/// Collects over whole memories.
-pub fn collect(heap: &mut Heap) -> Totals {
+/// Marks what self and program reach in whole memories.
+fn mark(heap: &Heap) -> Marks {
     let mut marks = Marks {
         frames: [false; heap::FRAMES as usize],
         texts: [false; heap::TEXTS as usize],
@@ -37,6 +38,12 @@ pub fn collect(heap: &mut Heap) -> Totals {
             marks.visit(Value::read(heap, heap::slot(frame, i) + 1));
         }
     }
+    marks
+}
+
+/// Collects over whole memories.
+pub fn collect(heap: &mut Heap) -> Totals {
+    let marks = mark(heap);
     for (f, marked) in (0..).zip(&marks.frames) {
         if !marked {
             heap[heap::frame(f)] = 0;
@@ -49,4 +56,15 @@ pub fn collect(heap: &mut Heap) -> Totals {
     }
     let count = |marks: &[bool]| marks.iter().filter(|&&marked| marked).count() as u32;
     Totals { frames: count(&marks.frames), texts: count(&marks.texts) }
+}
+
+/// How many of the frames that are reached each maker made, over whole memories.
+pub fn makers(heap: &Heap, counts: &mut [u32; MAKERS]) {
+    let marks = mark(heap);
+    counts.fill(0);
+    for (f, &marked) in (0..).zip(&marks.frames) {
+        if marked {
+            counts[heap[heap::frame(f) + heap::MAKER] as usize] += 1;
+        }
+    }
 }

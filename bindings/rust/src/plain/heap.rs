@@ -11,12 +11,14 @@ pub const END_MARK: usize = 5;
 pub const FRAMES: u32 = 256;
 pub const TEXTS: u32 = 256;
 
-/// The words of frame f: whether it is in use, how many slots it has, a word without use, and the slots.
+/// The words of frame f: whether it is in use, how many slots it has, its maker, and the slots.
 pub const fn frame(f: u32) -> usize {
     128 + 51 * f as usize
 }
 
 pub const SLOT_COUNT: usize = 1;
+/// 1 + the instruction whose step made the frame; 0 where it was made at loading.
+pub const MAKER: usize = 2;
 
 /// Slot i of the frame at this word: name, tag and number.
 pub const fn slot(frame: usize, i: usize) -> usize {
@@ -90,10 +92,11 @@ pub fn push_slot(heap: &mut Heap, frame: usize, name: u32, value: Value) {
     heap[frame + SLOT_COUNT] = count + 1;
 }
 
-/// Takes frame f into use, without slots.
-pub fn take_frame(heap: &mut Heap, f: u32) {
+/// Takes frame f into use, without slots, for a maker.
+pub fn take_frame(heap: &mut Heap, f: u32, maker: u32) {
     heap[frame(f)] = 1;
     heap[frame(f) + SLOT_COUNT] = 0;
+    heap[frame(f) + MAKER] = maker;
 }
 
 /// Fetch: the value along these names from a root.

@@ -4,6 +4,9 @@ use super::layout::{self, expression_kind, instruction_kind, Literals, Program};
 use super::parse::{self, Base, Code, Expression, Instruction, Path, Root, Slot, Source};
 use crate::{Refusal, SOURCE_BYTES, TEXT_BYTES};
 
+/// The maker of frames that no step makes.
+const LOADING: u32 = 0;
+
 /// Loads a source with the limits F (`frames`) and T (`texts`): the memories then hold its program and its start.
 pub fn load(
     source: &[u8],
@@ -179,7 +182,7 @@ impl Emitter<'_> {
 fn start(source: &Source, program: &Program, heap: &mut Heap) {
     let mut frames = 0;
     let outer = make_frame(&source.slots, heap, &mut frames);
-    heap::take_frame(heap, frames);
+    heap::take_frame(heap, frames, LOADING);
     Value::Frame(frames).write(heap, heap::SELF);
     Value::Frame(outer).write(heap, heap::PROGRAM);
     heap[heap::POSITION] = program[layout::code(source.start)];
@@ -188,7 +191,7 @@ fn start(source: &Source, program: &Program, heap: &mut Heap) {
 fn make_frame(slots: &[Slot], heap: &mut Heap, frames: &mut u32) -> u32 {
     let f = *frames;
     *frames += 1;
-    heap::take_frame(heap, f);
+    heap::take_frame(heap, f, LOADING);
     for slot in slots {
         let value = match &slot.value {
             Expression::Base(Base::Integer(n)) => Value::Integer(*n),

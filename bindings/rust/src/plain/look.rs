@@ -20,7 +20,7 @@ pub fn look(
         Value::Integer(n) => Found::Integer(n),
         Value::Literal(_) | Value::Made(_) => Found::Text,
         Value::Code(_) => Found::Code,
-        Value::Frame(_) => Found::Frame,
+        Value::Frame(f) => Found::Frame(heap[heap::frame(f) + heap::MAKER]),
     })
 }
 

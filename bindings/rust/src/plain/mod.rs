@@ -1,5 +1,5 @@
 //! A plain implementation of the specification over the four memories: load, run, collect, look and its companion,
-//! and write.
+//! makers, and write.
 //!
 //! It follows the specification and docs/LAYOUT.md and shares no code with the proved machine. It was not written blind:
 //! the definitions and the source of the proved crates were read before, for the words that load and a step write, so that
@@ -25,7 +25,7 @@ pub use load::load;
 pub use look::{look, look_text};
 pub use write::write;
 
-use crate::{Refusal, RunReport, Totals};
+use crate::{Refusal, RunReport, Totals, MAKERS};
 use heap::Heap;
 
 /// The refusal of every call but load: the memories are not whole.
@@ -56,6 +56,21 @@ pub fn collect(
     whole::state(program, heap, texts).ok_or(NOT_WHOLE)?;
     let heap: &mut Heap = heap.try_into().map_err(|_| NOT_WHOLE)?;
     Ok(collect::collect(heap))
+}
+
+/// Counts the frames that self and program reach by their makers: `counts[n]` becomes how many of them the instruction of
+/// number n made, from 1 on, and `counts[0]` how many were made at loading. Nothing else is written.
+pub fn makers(
+    program: &[u32],
+    heap: &[u32],
+    literals: &[u8],
+    texts: &[u8],
+    counts: &mut [u32; MAKERS],
+) -> Result<(), Refusal> {
+    let (program, _) = whole::program(program, literals).ok_or(NOT_WHOLE)?;
+    let (heap, _) = whole::state(program, heap, texts).ok_or(NOT_WHOLE)?;
+    collect::makers(heap, counts);
+    Ok(())
 }
 
 /// Whether the memories are whole.

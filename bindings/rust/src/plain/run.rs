@@ -364,7 +364,9 @@ impl<'a> Machine<'a> {
         }
         let heap = &*self.heap;
         let f = self.frames.take(|f| heap[heap::frame(f)] == 0);
-        heap::take_frame(self.heap, f);
+        // the position is still that of the instruction which is stepped
+        let maker = self.heap[heap::POSITION];
+        heap::take_frame(self.heap, f, maker);
         for y in self.slots(x) {
             let value = self.make(y);
             let name = self.program[layout::expression(y) + 3];

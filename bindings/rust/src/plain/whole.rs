@@ -334,10 +334,11 @@ impl State<'_> {
         in_use <= self.program[layout::FRAME_LIMIT]
     }
 
-    /// At most 16 slots with distinct names, and values that exist.
+    /// A maker that exists or is 0; at most 16 slots with distinct names, and values that exist.
     fn frame(&self, frame: usize) -> bool {
         let count = self.heap[frame + heap::SLOT_COUNT] as usize;
         count <= layout::MOST_SLOTS
+            && self.heap[frame + heap::MAKER] <= self.program[layout::INSTRUCTIONS]
             && (0..count).all(|i| {
                 let name = self.heap[heap::slot(frame, i)];
                 name < self.program[layout::NAMES]

@@ -412,10 +412,12 @@ fn word_place(random: &mut Random) -> usize {
 }
 
 fn heap_place(random: &mut Random) -> usize {
-    match random.below(5) {
+    match random.below(6) {
         0 => random.below(8),
         1 | 2 => 128 + random.below(51 * 12),
         3 => 13_184 + random.below(16),
+        // a maker
+        4 => 130 + 51 * random.below(12),
         _ => random.below(16_384),
     }
 }

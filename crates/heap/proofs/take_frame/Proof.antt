@@ -6,11 +6,14 @@ use Rattle.heap.proofs.take_frame.Tie as tie
 returns : tie.Need-returns
 unfolding take-frame
 returns c =
+    let k = c .before .before .before .before .before .before .before in
     rw (
-      c .before .before .set-word2 .ensures,
-      c .before .before .before .wide2 .ensures,
-      c .before .before .before .before .before .before .before .set-word .ensures,
-      c .before .before .before .before .before .before .before .before .wide .ensures,
+      c .before .before .set-word3 .ensures,
+      c .before .before .before .wide3 .ensures,
+      k .set-word2 .ensures,
+      k .before .wide2 .ensures,
+      k .before .before .before .before .before .set-word .ensures,
+      k .before .before .before .before .before .before .wide .ensures,
     )
 
 pub take-frame-spec : {M : Type 1} → statement M
@@ -18,4 +21,5 @@ take-frame-spec =
     tie.close
     (tie.spec
     (λ c κs. search needs) (λ c. search needs) (λ c. search needs) (λ c κs. search needs) (λ c κs. search needs)
-    (λ c. search needs) (λ c. search needs) (λ c κs. search needs) (λ c. search needs) returns)
+    (λ c. search needs) (λ c. search needs) (λ c κs. search needs) (λ c κs. search needs) (λ c. search needs)
+    (λ c. search needs) (λ c κs. search needs) (λ c. search needs) returns)

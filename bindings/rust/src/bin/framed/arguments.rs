@@ -5,6 +5,7 @@ use std::ffi::{OsStr, OsString};
 #[derive(Clone, Copy, Debug, PartialEq, Eq)]
 pub enum Command {
     Run,
+    Where,
     Check,
     Trace,
     Write,
@@ -15,6 +16,7 @@ impl Command {
     fn named(name: &OsStr) -> Option<Command> {
         Some(match name.to_str()? {
             "run" => Command::Run,
+            "where" => Command::Where,
             "check" => Command::Check,
             "trace" => Command::Trace,
             "write" => Command::Write,
@@ -26,6 +28,7 @@ impl Command {
     pub fn name(self) -> &'static str {
         match self {
             Command::Run => "run",
+            Command::Where => "where",
             Command::Check => "check",
             Command::Trace => "trace",
             Command::Write => "write",
@@ -36,6 +39,7 @@ impl Command {
     fn options(self) -> &'static [&'static str] {
         match self {
             Command::Run => &["--frames", "--texts", "--fuel", "--look"],
+            Command::Where => &["--frames", "--texts", "--fuel", "--always"],
             Command::Check => &["--frames", "--texts"],
             Command::Trace => &["--frames", "--texts", "--fuel"],
             Command::Write | Command::Replay => &[],
@@ -58,11 +62,12 @@ pub struct Options {
     pub texts: u32,
     pub fuel: u32,
     pub looks: Vec<OsString>,
+    pub always: bool,
 }
 
 impl Default for Options {
     fn default() -> Options {
-        Options { files: Vec::new(), frames: 256, texts: 256, fuel: 100_000, looks: Vec::new() }
+        Options { files: Vec::new(), frames: 256, texts: 256, fuel: 100_000, looks: Vec::new(), always: false }
     }
 }
 
@@ -117,6 +122,8 @@ fn options(command: Command, arguments: &[OsString]) -> Result<Options, String> 
             "--frames" => options.frames = number("3 to 256")?,
             "--texts" => options.texts = number("0 to 256")?,
             "--fuel" => options.fuel = number("0 to 4294967295")?,
+            "--always" if value.is_some() => return Err("--always takes no value".to_owned()),
+            "--always" => options.always = true,
             _ if value.is_some() => options.looks.extend(value.map(OsString::from)),
             _ => rest = looks(rest.as_slice(), &mut options)?,
         }

@@ -1,7 +1,7 @@
 //! The end of a run or a trace: its last line, and why it ended where it did.
 use crate::input::Loaded;
 use crate::{message, tell, Status};
-use framed::Stop;
+use framed::{End, Stop};
 use std::io::{self, Write};
 
 /// How a run ended, and the steps that it made.
@@ -10,8 +10,17 @@ pub struct Ran {
     pub steps: u32,
 }
 
-/// Collects and prints `end E steps S frames F texts T`; an end by number or spent fuel is told in words.
+/// The end of a run, and where it is one for want of frames, the command that tells more.
 pub fn finish(loaded: &mut Loaded, ran: &Ran, out: &mut impl Write) -> io::Result<Status> {
+    let status = end(loaded, ran, out)?;
+    if ran.stop == Stop::End(End::FramesFull) {
+        tell("  `framed where` tells which instructions made the frames");
+    }
+    Ok(status)
+}
+
+/// Collects and prints `end E steps S frames F texts T`; an end by number or spent fuel is told in words.
+pub fn end(loaded: &mut Loaded, ran: &Ran, out: &mut impl Write) -> io::Result<Status> {
     let Ran { stop, steps } = *ran;
     let totals = loaded.model.collect();
     writeln!(out, "end {stop} steps {steps} frames {} texts {}", totals.frames, totals.texts)?;

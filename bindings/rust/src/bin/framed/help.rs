@@ -3,6 +3,7 @@ use crate::arguments::Command;
 
 pub const USAGE: &str = "\
 usage: framed run MODEL [--frames F] [--texts T] [--fuel N] [--look PATH ..]
+       framed where MODEL [--frames F] [--texts T] [--fuel N] [--always]
        framed check MODEL .. [--frames F] [--texts T]
        framed trace MODEL [--frames F] [--texts T] [--fuel N]
        framed write MODEL
@@ -13,6 +14,7 @@ usage: framed run MODEL [--frames F] [--texts T] [--fuel N] [--look PATH ..]
 pub fn usage(command: Command) -> &'static str {
     match command {
         Command::Run => "framed run MODEL [--frames F] [--texts T] [--fuel N] [--look PATH ..]",
+        Command::Where => "framed where MODEL [--frames F] [--texts T] [--fuel N] [--always]",
         Command::Check => "framed check MODEL .. [--frames F] [--texts T]",
         Command::Trace => "framed trace MODEL [--frames F] [--texts T] [--fuel N]",
         Command::Write => "framed write MODEL",
@@ -23,13 +25,16 @@ pub fn usage(command: Command) -> &'static str {
 /// The help for one command, or for all.
 pub fn text(command: Option<Command>) -> String {
     let Some(command) = command else {
-        return format!("{ABOUT}\n{USAGE}\n{COMMANDS}\n{LIMITS}{FUEL}{LOOK}\n{STATUS}\n{EXAMPLES}");
+        return format!("{ABOUT}\n{USAGE}\n{COMMANDS}\n{LIMITS}{FUEL}{LOOK}{ALWAYS}\n{STATUS}\n{EXAMPLES}");
     };
     let usage = usage(command);
     match command {
         Command::Run => format!("{RUN}\nusage: {usage}\n\n{LIMITS}{FUEL}{LOOK}\n{STATUS}\n{RUN_EXAMPLES}"),
+        Command::Where => {
+            format!("{WHERE}\nusage: {usage}\n\n{LIMITS}{FUEL}{ALWAYS}\n{STEPS_STATUS}\n{WHERE_EXAMPLES}")
+        }
         Command::Check => format!("{CHECK}\nusage: {usage}\n\n{LIMITS}\n{CHECK_STATUS}\n{CHECK_EXAMPLES}"),
-        Command::Trace => format!("{TRACE}\nusage: {usage}\n\n{LIMITS}{FUEL}\n{TRACE_STATUS}\n{TRACE_EXAMPLES}"),
+        Command::Trace => format!("{TRACE}\nusage: {usage}\n\n{LIMITS}{FUEL}\n{STEPS_STATUS}\n{TRACE_EXAMPLES}"),
         Command::Write => format!("{WRITE}\nusage: {usage}\n\n{WRITE_STATUS}\n{WRITE_EXAMPLES}"),
         Command::Replay => format!("{REPLAY}\nusage: {usage}\n\n{REPLAY_STATUS}\n{REPLAY_EXAMPLES}"),
     }
@@ -40,6 +45,7 @@ const ABOUT: &str = "The proved machine of the Framed language.
 
 const COMMANDS: &str = "
   run      runs a model and prints what it shows
+  where    runs a model and, where frames have no room, says which instructions made them
   check    says for each model whether it loads, and where and why it does not
   trace    runs a model and prints each instruction that it makes
   write    prints a model in the one form that all models of the same program have
@@ -60,6 +66,9 @@ const LOOK: &str = "  --look PATH ..
                prints what stands at the end of each path after the run. A path is `self`
                or `^`, the program, with names: self.faults, ^.table.trim.length. All
                arguments up to the next that begins with `--` are paths
+";
+
+const ALWAYS: &str = "  --always     where: says what made the frames however the run stops
 ";
 
 const STATUS: &str = "\
@@ -85,6 +94,23 @@ examples: framed run examples/drive.framed --look self.faults self.line
           framed run - --frames 20 --texts 2 --fuel 1000000 < examples/drive.framed
 ";
 
+const WHERE: &str = "\
+Runs a model as `run` does. Where it ends 36, for want of room for frames, it also prints what
+made the frames that are reached: `N frames reached, made:`, and a line for each instruction
+that made some of them, most frames first, as
+
+  37 by instruction 4 at MODEL:3:18: self.list := frame: [ next := self.list ];
+
+Instructions are counted from 1 by where each begins in the source, those in code literals
+too; `look` gives the same number as a frame's maker. `at loading` are the frames that are
+written outside code, and the first self.
+";
+
+const WHERE_EXAMPLES: &str = "\
+examples: framed where examples/leak.framed
+          framed where examples/drive.framed --fuel 1000 --always
+";
+
 const CHECK: &str = "\
 Loads each model and runs none. Prints `MODEL: loads`, or why it does not and where.
 ";
@@ -106,7 +132,7 @@ Runs a model as `run` does, and prints a line for each step: where the instructi
 in quotes), the line that was shown, or the code that was jumped to.
 ";
 
-const TRACE_STATUS: &str = "\
+const STEPS_STATUS: &str = "\
 status: 0  done
         1  an end by number, 31 to 37
         2  the model is refused
@@ -145,7 +171,8 @@ looked for in the working directory. A script is a list of calls in the tokens o
   run FUEL SPACE     what was shown, then run E steps S bytes B. SPACE is at most 4096;
                      FUEL -1 is the largest
   collect            collect frames F texts T
-  look \"PATH\"        look integer N, look text BYTES, look code, look frame, or refused N
+  look \"PATH\"        look integer N, look text BYTES, look code, look frame maker N, or
+                     refused N
   write SPACE        write bytes N TEXT, the program as Framed text, or refused N. SPACE is
                      at most 32768, and 32767 is enough for every model
 

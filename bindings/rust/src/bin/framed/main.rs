@@ -1,4 +1,5 @@
-//! `framed`: runs, checks, traces and writes models and replays scripts, over the proved static library.
+//! `framed`: runs, checks, traces and writes models, tells what fills their memory, and replays scripts, over the
+//! proved static library.
 //!
 //! Results go to standard output, words about them to standard error. The exit status is a [`Status`].
 #![forbid(unsafe_code)]
@@ -8,6 +9,7 @@ mod check;
 mod ending;
 mod help;
 mod input;
+mod makers;
 mod message;
 mod progress;
 mod replay;
@@ -69,6 +71,7 @@ fn answer(request: &Request, out: &mut impl Write) -> io::Result<Status> {
 fn make(command: Command, options: &Options, out: &mut impl Write) -> io::Result<Status> {
     match command {
         Command::Run => run::run(options, out),
+        Command::Where => makers::makers(options, out),
         Command::Check => check::check(options, out),
         Command::Trace => trace::trace(options, out),
         Command::Write => write::write(options, out),

@@ -78,7 +78,7 @@ fn nowhere(look: impl Fn(&[u8]) -> Result<Found, Refusal>, path: &[u8]) -> Optio
     for end in dots {
         let (part, text) = (&path[..end], String::from_utf8_lossy(front));
         match look(part) {
-            Ok(Found::Frame) => front = part,
+            Ok(Found::Frame(_)) => front = part,
             Ok(found) => return Some(format!("`{}` is {}", String::from_utf8_lossy(part), kind(found))),
             Err(Refusal(22)) => {
                 let name = part.get(front.len() + 1..)?;
@@ -95,7 +95,7 @@ fn kind(found: Found) -> &'static str {
         Found::Integer(_) => "an integer and not a frame",
         Found::Text => "a text and not a frame",
         Found::Code => "a code and not a frame",
-        Found::Frame => "a frame",
+        Found::Frame(_) => "a frame",
     }
 }
 

@@ -46,7 +46,7 @@ pub fn slices<E>(fuel: u32, mut run: impl FnMut(u32, usize) -> Result<RunReport,
 }
 
 /// A run whose shows are written as they come: so a full buffer does not stop it.
-fn written_run(loaded: &mut Loaded, fuel: u32, out: &mut impl Write) -> io::Result<Ran> {
+pub fn written_run(loaded: &mut Loaded, fuel: u32, out: &mut impl Write) -> io::Result<Ran> {
     let mut shown = vec![0; SPACE];
     let mut progress = Progress::new();
     let mut steps = 0;
@@ -76,7 +76,7 @@ fn look(loaded: &Loaded, path: &OsStr, out: &mut impl Write) -> io::Result<Statu
         Ok(Found::Integer(n)) => format!("integer {n}").into_bytes(),
         Ok(Found::Text) => [b"text ", model.look_text(bytes).as_slice()].concat(),
         Ok(Found::Code) => b"code".to_vec(),
-        Ok(Found::Frame) => b"frame".to_vec(),
+        Ok(Found::Frame(maker)) => format!("frame maker {maker}").into_bytes(),
         Err(refusal) => {
             out.flush()?;
             let why = message::why_not_found(|path| model.look(path), bytes, refusal);
