@@ -21,14 +21,6 @@ module _ (test : ℕ → Bool) where
   chosen [] = []
   chosen (n ∷ ns) = elim (test n) [ true ↦ n ∷ chosen ns | false ↦ chosen ns ]
 
-  chosen-yes : (n : ℕ) (ns : List ℕ) → test n ≡ true → chosen (n ∷ ns) ≡ n ∷ chosen ns
-  unfolding chosen
-  chosen-yes n ns e = rw (e, chosen)
-
-  chosen-no : (n : ℕ) (ns : List ℕ) → test n ≡ false → chosen (n ∷ ns) ≡ chosen ns
-  unfolding chosen
-  chosen-no n ns e = rw (e, chosen)
-
   count-chosen : (ns : List ℕ) → count test ns ≡ length (chosen ns)
   unfolding count chosen
   count-chosen [] = refl

@@ -9,13 +9,12 @@ use lib.IntN.{ℤ}
 use lib.ListN.{length}
 use Rattle.framed.specs.declared.LookAnswer.{LookAnswer}
 use Rattle.framed.proofs.LookAnswer.{the-type}
-use Rattle.answers.specs.Numbers.{look-number}
 use Rattle.splice.specs.Splice.{splice}
 use Rattle.wellformed.specs.WellFormed.{WellFormed, well-formed}
 use Rattle.wellformed.proofs.Decides.{well-formed-decides}
-use Rattle.look.specs.Look.{look-call, LookMeans, look-bytes, LookTextMeans}
+use Rattle.look.specs.Look.{look-bytes, LookTextMeans}
 use Rattle.look.proofs.Means.{look-text-is-fetch}
-use Rattle.framed_c.specs.Look.{integer-cell, maker-cell, LooksInC, LooksTextInC}
+use Rattle.framed_c.specs.Look.{integer-cell, maker-cell, LooksTextInC}
 
 -- ---- The cells: what is not an integer, or not a frame, leaves its cell as it was
 

@@ -16,9 +16,7 @@ use Rattle.framed.specs.Answers.{Look, look-word}
 use Rattle.framed.specs.Bytes.{class}
 use Rattle.framed.specs.Tokens.{tokens}
 use Rattle.framed.specs.Tree.{Written}
-use Rattle.framed.specs.Program.{Program}
 use Rattle.framed.specs.Values.{text-bytes}
-use Rattle.framed.specs.Machine.{State}
 use Rattle.framed.specs.Calls.{read-path, look-from, maker-in, kind, look, text-in, look-text, LooksAs, LooksTextAs}
 use Rattle.framed.proofs.LookJudged.{look-judged}
 use Rattle.words.specs.Words.{pick}

@@ -1,19 +1,16 @@
 -- Each marked frame counted for its maker: the counts after one frame more. Assumes nothing.
 use Prim.Native.Nat.{ℕ, suc, _+_, _≤_, _<_}
 use mathlib.Core.Path.{_≡_, refl, sym, _∙_, ap, subst}
-use mathlib.Core.Logic.{_≢_}
-use mathlib.Core.Bool.{Bool, true, false, not, _&&_, and-false}
 use mathlib.Core.List.{List}
 use native.Mathlib.Omega.{arith}
 use native.Mathlib.Numerals.{add-one}
 use lib.ListN.{length, getD, set, replicate, length-replicate}
 use lib.Seq.{ext-getD}
-use lib.Dec.{eqb}
 use mir.Val.{Fits}
 use mir.Syntax.{w32}
 use borrow.Author.Tests.{eq-eqb, ne-eqb}
 use Rattle.heap.specs.Words.{maker-at}
-use Rattle.heap.specs.Lists.{listed, passing}
+use Rattle.heap.specs.Lists.{passing}
 use Rattle.heap.proofs.Lists.{zeros-at, listed-length, listed-at, listed-same, listed-set, passing-yes, passing-no, passing-few}
 use Rattle.mark.specs.Reached.{Marked}
 use Rattle.makers.specs.Makers.{marked-made, counts-below, count-for, CanCount, MakersFit}
@@ -49,10 +46,6 @@ none-counted h marks = record {
 module _ (h marks : List ℕ) (f : ℕ) (counts : List ℕ) (a : Tallied h marks f counts) where
   abbrev made-below : ℕ → ℕ → ℕ
   made-below k n = length (passing (marked-made h marks n) k)
-
-  pub tallied-size : length counts ≡ 513
-  unfolding counts-below
-  tallied-size = ap {B = ℕ} length (a .so-far) ∙ listed-length (made-below f) 513
 
   count-at : (n : ℕ) → n < 513 → getD counts n 0 ≡ made-below f n
   unfolding counts-below

@@ -28,7 +28,7 @@ use Rattle.heap.specs.Lists.{passing}
 use Rattle.heap.proofs.Held.{maker-of-used}
 use Rattle.heap.proofs.Lists.{listed-length, listed-at, same-length, passing-means, passing-has, passing-once}
 use Rattle.mark.specs.Mark.{mark-all}
-use Rattle.mark.specs.Reached.{Reached, Marked, Exactly}
+use Rattle.mark.specs.Reached.{Reached, Marked}
 use Rattle.mark.proofs.ReachLaws.{mark-exact, reached-in-use}
 use Rattle.state_form.proofs.Facts.{well-formed-closed}
 use Rattle.wellformed.specs.WellFormed.{limits, WellFormed, well-formed}

@@ -24,7 +24,7 @@ use Rattle.framed.specs.Machine.{following, first-of}
 use Rattle.tables.specs.declared.ExpressionEntry.{ExpressionEntry}
 use Rattle.tables.specs.declared.InstructionEntry.{InstructionEntry}
 use Rattle.tables.specs.Entries.{expression-at, instruction-at}
-use Rattle.tables.specs.Fields.{names, literals, codes, expressions, instructions, path-names, code-first, literal-byte, literal-length, link, slot-name, slot-after, slot-walk, follow-slot, instruction-after}
+use Rattle.tables.specs.Fields.{names, literals, codes, expressions, instructions, path-names, literal-byte, literal-length, link, slot-name, slot-after, slot-walk, follow-slot, instruction-after}
 use Rattle.tables.proofs.Walks.{walk-suc, slots-larger}
 use Rattle.program_entries.specs.Form.{Entries, SlotList}
 use Rattle.program_form.specs.WellFormed.{WellFormed}
