@@ -1,12 +1,14 @@
-// The number that the next new frame and the next new made text take: the lowest that is not in use. How many are free the heap words say.
+// The number that the next new frame and the next new made text take: the lowest that is not in use. How many are in use, the crate heap counts.
 ghost use Rattle.std.specs.Prelude.{◌≡◌};
 ghost use Rattle.allocation.specs.Allocation.{next_frame, next_text};
 ghost use Rattle.allocation.specs.Known.{FullBelow, TextsFull};
 
-// What is known of the numbers in use: every frame below `low` is, and every made text below `least`.
+// What is known of the numbers in use: at most so many frames and made texts are, every frame below `low` is, and every made text below `least`.
 #[derive(Drop)]
 pub struct Known {
+    pub frames: u32,
     pub low: u32,
+    pub texts: u32,
     pub least: u32,
 }
 

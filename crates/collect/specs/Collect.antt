@@ -11,10 +11,9 @@ use Rattle.words.specs.Words.{pick}
 use Rattle.heap.specs.Closed.{FrameInUse, TextInUse}
 use Rattle.heap.specs.Held.{frame_held, text_held}
 use Rattle.heap.specs.Words.{self_held, program_held, position, end_mark}
-use Rattle.tables.specs.Fields.{frame_limit, text_limit}
 use Rattle.wellformed.specs.WellFormed.{WellFormed, well_formed}
 use Rattle.wellformed.specs.Held.{state_held}
-use Rattle.collector.specs.Collect.{collect_counted}
+use Rattle.collector.specs.Collect.{collect_heap}
 
 -- the answer, and the heap words at exit
 pub record Collecting : Type 0 where
@@ -26,8 +25,7 @@ collecting r h = record { answer = r; heap = h }
 
 unfoldable pub collect_call : List ℕ → List ℕ → List ℕ → List ℕ → Collecting
 collect_call p h l t =
-    let c = collect_counted (frame_limit p) (text_limit p) h in
-    pick (well_formed p h l t) (collecting (CollectAnswer.Collected c.totals) c.words) (collecting CollectAnswer.NotWellFormed h)
+    pick (well_formed p h l t) (collecting (CollectAnswer.Collected (collect_heap h).totals) (collect_heap h).words) (collecting CollectAnswer.NotWellFormed h)
 
 -- where the memories are well-formed: the totals are those of what self and program reach, and afterwards exactly that is in use, as it was
 pub record Reached (p h l t : List ℕ) (r : CollectAnswer) (h' : List ℕ) : Type 0 where

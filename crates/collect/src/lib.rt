@@ -11,6 +11,6 @@ pub fn collect(p: &[u32], h: &mut [u32], l: &[u8], t: &[u8]) -> CollectAnswer
     if !wellformed::well_formed(p, h, l, t) {
         return CollectAnswer::NotWellFormed;
     }
-    let totals = collector::collect_counted(h, tables::frame_limit(p), tables::text_limit(p));
+    let totals = collector::collect_heap(h);
     CollectAnswer::Collected(totals)
 }

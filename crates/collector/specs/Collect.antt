@@ -5,7 +5,6 @@ use Rattle.words.specs.Words.{pick}
 use Rattle.framed.specs.declared.Totals.{Totals}
 use Rattle.heap.specs.Words.{free_frame, free_text}
 use Rattle.heap.specs.Held.{frames_in_use, texts_in_use}
-use Rattle.heap.specs.Counted.{recounted}
 use Rattle.mark.specs.Mark.{mark_all}
 
 -- the mark of a frame, of a made text, is not set
@@ -46,7 +45,3 @@ collection r h = record { totals = r; words = h }
 
 unfoldable pub collect_heap : List ℕ → Collection
 collect_heap h = collection (in_use_totals (swept (mark_all h) h)) (swept (mark_all h) h)
-
--- the same with the counts of what is free under the limits F and T (document 02, A6)
-unfoldable pub collect_counted : (F T : ℕ) → List ℕ → Collection
-collect_counted F T h = let c = collect_heap h in collection c.totals (recounted F T c.words)

@@ -7,11 +7,10 @@ use Rattle.framed.specs.Reach.{roots, reached_frames, reached_texts}
 use Rattle.heap.specs.Words.{self_held, program_held, position, end_mark}
 use Rattle.heap.specs.Held.{frame_held, text_held, frames_held}
 use Rattle.heap.specs.Closed.{FrameInUse, TextInUse, Closed}
-use Rattle.heap.specs.Counted.{Counted}
 use Rattle.mark.specs.Reached.{Reached}
 use Rattle.frame_form.specs.declared.Limits.{Limits}
 use Rattle.state_form.specs.Form.{StateWellFormed}
-use Rattle.collector.specs.Collect.{collect_heap, collect_counted}
+use Rattle.collector.specs.Collect.{collect_heap}
 
 -- h' is h after a collection that answered r
 pub record Collected (h h' : List ℕ) (r : Totals) : Type 0 where
@@ -38,9 +37,3 @@ CollectWellFormed = (h t : List ℕ) (l : Limits) → StateWellFormed h t l → 
 
 abbrev pub CollectMeans : Type 0
 CollectMeans = (h : List ℕ) → Closed h → Collected h (collect_heap h).words (collect_heap h).totals
-
--- with the counts it means the same, and they are right afterwards
-pub record CountedMeans : Type 0 where
-  pub means : (F T : ℕ) (h : List ℕ) → Closed h → Collected h (collect_counted F T h).words (collect_counted F T h).totals
-  pub formed : (F T : ℕ) (h t : List ℕ) (l : Limits) → StateWellFormed h t l → StateWellFormed (collect_counted F T h).words t l
-  pub counted : (h t : List ℕ) (l : Limits) → StateWellFormed h t l → Counted (collect_counted l.frames l.texts h).words l.frames l.texts

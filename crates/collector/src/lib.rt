@@ -2,7 +2,7 @@
 ghost use Rattle.std.specs.Prelude.{◌≡◌, ◌≤◌, length};
 ghost use Rattle.heap.specs.Lists.{passing};
 ghost use Rattle.heap.specs.Closed.{Closed};
-ghost use Rattle.collector.specs.Collect.{sweep_frames, sweep_texts, marked_from, collection, collect_heap, collect_counted};
+ghost use Rattle.collector.specs.Collect.{sweep_frames, sweep_texts, marked_from, collection, collect_heap};
 ghost use Rattle.collector.specs.Collected.{Collected};
 
 use framed::Totals;
@@ -50,7 +50,7 @@ fn count_marks(marks: &[u8; 512], from: usize) -> u32
 }
 
 // Afterwards exactly what self and program reach is in use; the totals are how much that is, which is how much is marked.
-fn collect_heap(h: &mut [u32]) -> Totals
+pub fn collect_heap(h: &mut [u32]) -> Totals
     requires { Closed h.old }
     ensures exact { collect_heap h.old ≡ collection result h.new }
     ensures means { Collected h.old h.new result }
@@ -65,19 +65,4 @@ fn collect_heap(h: &mut [u32]) -> Totals
         frames: frames,
         texts: texts,
     }
-}
-
-// The same, and what is free then is counted: the limits less the totals.
-pub fn collect_counted(h: &mut [u32], frames: u32, texts: u32) -> Totals
-    requires { Closed h.old }
-    ensures exact { collect_counted frames texts h.old ≡ collection result h.new }
-    ensures means { Collected h.old h.new result }
-{
-    let totals = collect_heap(h);
-    heap::set_counts(
-        h,
-        heap::less(frames, totals.frames),
-        heap::less(texts, totals.texts),
-    );
-    totals
 }

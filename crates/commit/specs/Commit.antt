@@ -52,7 +52,7 @@ path_of false ns = from_program ns
 abbrev pub state_of : List ℕ → List ℕ → List ℕ → Bounded Memories
 state_of p h t = state_held (remaining p) h t
 
--- tags of values, a position that is there, and right counts of what is free, are so afterwards
+-- tags of values, and a position that is there, are so afterwards
 pub record HeaderStays (p h h' : List ℕ) : Type 0 where
   pub formed : (m : Limits) → m.instructions ≡ instructions p → HeaderFormed h m → HeaderFormed h' m
 

@@ -6,18 +6,13 @@ use Rattle.words.specs.Words.{word}
 use Rattle.framed.specs.Tree.{Code}
 use Rattle.framed.specs.Paths.{Path}
 use Rattle.heap.specs.Words.{set_self, set_program, set_position, set_end_mark}
-use Rattle.heap.specs.Counted.{Counted, recounted}
 use Rattle.bounded.specs.Bounded.{Bounded}
 use Rattle.word_store.specs.Store.{Memories}
 use Rattle.word_store.specs.State.{state_held}
 
 -- the store's words, with self, program, position and end mark
-unfoldable pub heap_uncounted : Bounded Memories → List ℕ
-heap_uncounted b = set_end_mark (set_position (set_program (set_self b.store.heap b.self) b.program) b.next) b.end_mark
-
--- and with what is free under the limits F and T
-unfoldable pub heap_of : (F T : ℕ) → Bounded Memories → List ℕ
-heap_of F T b = recounted F T (heap_uncounted b)
+unfoldable pub heap_of : Bounded Memories → List ℕ
+heap_of b = set_end_mark (set_position (set_program (set_self b.store.heap b.self) b.program) b.next) b.end_mark
 
 -- the words have 32 bits, as those of a lent memory have
 pub record WordsFit (h : List ℕ) : Type 0 where
@@ -30,5 +25,4 @@ pub record Tagged (h : List ℕ) : Type 0 where
 
 -- words are those of the state that they hold
 abbrev pub WordsExact : Type 0
-WordsExact = (F T : ℕ) (remaining_from : ℕ → Code Path) (h t : List ℕ) → length h ≡ 16384 → WordsFit h → Tagged h → Counted h F T →
-    h ≡ heap_of F T (state_held remaining_from h t)
+WordsExact = (remaining_from : ℕ → Code Path) (h t : List ℕ) → length h ≡ 16384 → WordsFit h → Tagged h → h ≡ heap_of (state_held remaining_from h t)

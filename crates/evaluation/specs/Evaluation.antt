@@ -1,5 +1,5 @@
 -- Document 01, "The endless machine", the value of an expression, over the words: it is the bounded machine's `evaluate` on the store that the words are. The words of
--- self, program, position and end mark stay as they are, and what is taken into use is counted. Assumes nothing.
+-- self, program, position and end mark stay as they are. Assumes nothing.
 use Rattle.std.specs.Prelude.{ℕ, ◌-◌, ◌<◌, ◌≤◌, ◌≡◌, List}
 use Rattle.framed.specs.declared.Value.{Value}
 use Rattle.framed.specs.Equality.{Constants, constants}
@@ -11,7 +11,6 @@ use Rattle.program_form.specs.Sound.{SlotPlace}
 use Rattle.trees.specs.Held as trees
 use Rattle.heap.specs.Words.{self_held, program_held, position, add_slot}
 use Rattle.heap.specs.Closed.{ValueFits, FrameInUse}
-use Rattle.heap.specs.Counted.{one_frame_less}
 use Rattle.allocation.specs.Allocation.{next_frame}
 use Rattle.bounded.specs.Bounded.{value_given, evaluate, fill}
 use Rattle.operands.specs.Operands.{operand_value}
@@ -19,10 +18,10 @@ use Rattle.word_store.specs.Store.{word_store, claim_frame}
 use Rattle.word_store.specs.State.{store_held}
 use Rattle.producing.specs.Producing.{HasRoom, Writable, Leaves, made}
 
--- a frame is claimed and counted: its maker is the instruction at the position, 0 before the start
+-- a frame is claimed: its maker is the instruction at the position, 0 before the start
 pub record Claims (h : List ℕ) (r : ℕ) (h' : List ℕ) : Type 0 where
   pub answer : r ≡ next_frame h
-  pub words : h' ≡ one_frame_less (claim_frame h (position h))
+  pub words : h' ≡ claim_frame h (position h)
 
 -- the string and code literals of the program that p and l hold
 abbrev pub program_constants : List ℕ → List ℕ → Constants

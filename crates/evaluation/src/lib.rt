@@ -5,14 +5,13 @@ ghost use Rattle.evaluation.specs.Evaluation.{Claims, CanEvaluate, Flat, Evaluat
 use framed::Value;
 use tables::ExpressionEntry;
 
-// The lowest frame not in use is taken and counted, without slots, made by the instruction at the position; those below `low` are in use.
+// The lowest frame not in use is taken, without slots, made by the instruction at the position; those below `low` are in use.
 pub fn claim(h: &mut [u32], low: u32) -> u32
     requires { FullBelow h.old low }
     ensures { Claims h.old result h.new }
 {
     let f = allocation::lowest_frame(h, low);
     heap::take_frame(h, f, heap::position(h));
-    heap::one_frame_less(h);
     f
 }
 

@@ -1,9 +1,8 @@
 -- Document 01, "Whole memories" (here: well-formed), the clauses on values and frames in heap words h, as the tests that the code makes.
 -- What they mean is `Form` of state_form. Assumes nothing.
-use Rattle.std.specs.Prelude.{ℕ, ◌+◌, List, Bool, not, ◌&&◌, ◌||◌, eqb, leb, ltb, length}
+use Rattle.std.specs.Prelude.{ℕ, List, Bool, not, ◌&&◌, ◌||◌, eqb, leb, ltb}
 use Rattle.words.specs.Words.{all_below}
-use Rattle.heap.specs.Words.{free_frames, frame_word, frame_used, maker_at, slot_count_at, slot_name_at, slot_tag_at, slot_number_at, text_used}
-use Rattle.heap.specs.Held.{frames_in_use}
+use Rattle.heap.specs.Words.{frame_word, frame_used, maker_at, slot_count_at, slot_name_at, slot_tag_at, slot_number_at, text_used}
 use Rattle.frame_form.specs.declared.Limits.{Limits}
 
 unfoldable pub frame_in_use : List ℕ → ℕ → Bool
@@ -35,9 +34,5 @@ frame_formed h l f =
     eqb (frame_word h f) 0
     || (leb (slot_count_at h f) 16 && (eqb (frame_word h f) 1 && leb (maker_at h f) l.instructions && slots_formed h l f (slot_count_at h f)))
 
--- those in use and those free are F (document 02, A6)
-unfoldable pub frames_counted : List ℕ → Limits → Bool
-frames_counted h l = eqb (length (frames_in_use h) + free_frames h) l.frames
-
 unfoldable pub frames_formed : List ℕ → Limits → Bool
-frames_formed h l = all_below (frame_formed h l) 256 && frames_counted h l
+frames_formed h l = all_below (frame_formed h l) 256

@@ -106,19 +106,14 @@ fn frame_formed(h: &[u32], limits: Limits, f: u32) -> bool
     (w == 1) & (heap::maker(h, f) <= limits.instructions) & slots_formed(h, limits, f, n)
 }
 
-// Each, and how many are in use: with those that are free they are F.
 pub fn frames_formed(h: &[u32], limits: Limits) -> bool
     ensures { result ≡ frames_formed h.now limits }
 {
     let mut ok = true;
-    let mut n = 0u32;
     let mut f = 0u32;
     while f < 256 {
-        if heap::frame_used(h, f) {
-            n += 1;
-        }
         ok = ok & frame_formed(h, limits, f);
         f += 1;
     }
-    ok & (words::wide(n) + words::wide(heap::free_frames(h)) == words::wide(limits.frames))
+    ok
 }

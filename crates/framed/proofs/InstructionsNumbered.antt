@@ -22,7 +22,7 @@ use Rattle.framed.specs.Equality.{constants}
 use Rattle.framed.specs.Machine.{Result, Evaluated, gives, ends, evaluate, State, Effect, perform, reserve, step, after_step, marked, following, first_of, start_from, start}
 use Rattle.framed.specs.Judgments.{I⇒, i_show, i_jump, i_ifeq₁, i_ifeq₂, i_assign₁, i_assign₂, i_assign₃, i_assign₄}
 use Rattle.framed.specs.Calls.{Unbounded, at_start, advanced, ended, attempted, one_more, run, Call, run_call, collect_call, first_report, calls}
-use Rattle.framed.specs.Theorems.{Numbered, none_left, first, CodesNumbered, NumbersByPlace, InstructionsNumbered}
+use Rattle.framed.specs.Theorems.{Numbered, none_left, first, CodesNumbered, NumbersByPlace, InstructionsPlaced, InstructionsNumbered}
 use Rattle.framed.proofs.General.{none≢some, some_inj}
 use Rattle.framed.proofs.Lists.{get_seam}
 use Rattle.framed.proofs.Parts.{lines, codes_append, instructions_append, firsts_append, firsts_length, nexts_append, nexts_length}
@@ -187,7 +187,7 @@ module _ (P : Program → Type 0) (of_program : (ts : List Token) (ss : Slots Pa
 source_numbered : (source : List ℕ) (p : Program) → program source ≡ some p → CodesNumbered p
 source_numbered = of_source CodesNumbered tree_numbered
 
-source_places : (source : List ℕ) (p : Program) → program source ≡ some p → NumbersByPlace p (slots_parts p.slots)
+pub source_places : InstructionsPlaced
 unfolding program_of
 source_places = of_source (λ p. NumbersByPlace p (slots_parts p.slots)) tree_places
 
@@ -249,7 +249,6 @@ module _ (p : Program) (F T : ℕ) (c : CodesNumbered p) where
 pub instructions_numbered : InstructionsNumbered
 unfolding at_start
 instructions_numbered = record {
-  places = source_places;
   codes = source_numbered;
   start = λ source p e. start_numbered p (source_numbered source p e);
   steps = step_numbered;

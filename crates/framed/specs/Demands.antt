@@ -77,9 +77,6 @@ pub record LentMachine : Type 1 where
   pub state_in : Memories → State
   pub frames_in_use : Memories → List ℕ
   pub texts_in_use : Memories → List ℕ
-  -- document 02, A6: the two counts that the heap memory keeps
-  pub free_frames_in : Memories → ℕ
-  pub free_texts_in : Memories → ℕ
 
 -- the next instruction, if there is one, gives the end e
 pub data NextEnds (p : Program) (F T : ℕ) (s : State) (e : ℕ) : Type 0 where
@@ -150,10 +147,6 @@ module _ (M : LentMachine) where
     pub run_keeps_shows : (m : Memories) (fuel : ℕ) (buffer : List ℕ) (e steps count : ℕ) (bytes : List ℕ) →
         reported m fuel buffer ≡ Report.ran (Stopped.end e) steps count bytes →
         (why : Stopped) × (reported m steps buffer ≡ Report.ran why steps count bytes)
-    -- A6: in well-formed memories the counts kept are F less the frames in use and T less the made texts in use. So after every load, run and collect, and after
-    -- every step: the memories after k steps are what the run with k units of fuel leaves
-    pub counts_frames : (m : Memories) → M.WellFormed m → length (M.frames_in_use m) + M.free_frames_in m ≡ M.F_in m
-    pub counts_texts : (m : Memories) → M.WellFormed m → length (M.texts_in_use m) + M.free_texts_in m ≡ M.T_in m
     -- load, run and collect leave well-formed memories; run and collect write no program word and no literal byte
     pub load_leaves : (m : Memories) (source : List ℕ) (F T : ℕ) → refusal (lengths m) source F T ≡ 0 → M.WellFormed (M.load m source F T).memories
     pub run_leaves : (m : Memories) (fuel : ℕ) (buffer : List ℕ) → M.WellFormed m → M.WellFormed (M.run m fuel buffer).memories

@@ -228,10 +228,12 @@ pub record NumbersByPlace (p : Program) (parts : List Part) : Type 0 where
       (get_elem? p.codes (length (codes_in before)) ≡ some is)
       × (first_of p (length (codes_in before)) ≡ first_number (suc (length (instructions_in before))) is)
 
+abbrev pub InstructionsPlaced : Type 0
+InstructionsPlaced = (source : List ℕ) (p : Program) → program source ≡ some p → NumbersByPlace p (slots_parts p.slots)
+
 -- `State.next` is the number of the first of the remaining instructions: so at the start of a source's program, after every step, and after every list of runs
 -- and collects
 pub record InstructionsNumbered : Type 0 where
-  pub places : (source : List ℕ) (p : Program) → program source ≡ some p → NumbersByPlace p (slots_parts p.slots)
   pub codes : (source : List ℕ) (p : Program) → program source ≡ some p → CodesNumbered p
   pub start : (source : List ℕ) (p : Program) → program source ≡ some p → Numbered p (start p).next (start p).remaining
   pub steps : (p : Program) (F T : ℕ) (s : State) (i : Instruction Path) (rest : Code Path) (x : Effect) → CodesNumbered p →

@@ -208,9 +208,6 @@ module _ {h h' : List ℕ} where
     pub high_frames : Sized h → 13184 ≤ a → SameFrames h h'
     high_frames s le = frames_by s (λ g lt. local_same l _ _ (λ k lo hi lo' hi'. omega arith))
 
-    pub low_in_use : b ≤ 128 → frames_in_use h' ≡ frames_in_use h
-    low_in_use le = used_same h h' (λ g lt. same_frame_used g (local_same l _ _ (λ k lo hi lo' hi'. omega arith)))
-
     -- a change below the made texts
     pub low_texts : b ≤ 13184 → SameTexts h h'
     low_texts le = texts_by (λ k lt. local_same l _ _ (λ j lo hi lo' hi'. omega arith))

@@ -1,12 +1,12 @@
 -- What each accessor reads after each updater. `Local a b h h'`: h' differs from h in the words from a up to b alone; `Same a b h h'`: they agree there.
 -- Each updater is shown `Local` once, each accessor is shown kept by `Same` once. Assumes nothing.
 use Prim.Native.Nat.{ℕ, ◌+◌, ◌-◌, ◌*◌, ◌≤◌, ◌<◌}
-use mathlib.Core.Path.{◌≡◌, refl, ◌∙◌, ap, ap₂, sym}
+use mathlib.Core.Path.{◌≡◌, refl, ◌∙◌, ap, ap₂}
 use mathlib.Core.Logic.{◌≢◌}
 use mathlib.Core.List.{List}
 use mathlib.Core.Bool.{true, false, not}
 use native.Mathlib.Omega.{arith}
-use native.Mathlib.Decide.{ℕ_discrete, dec_lt, dec_le}
+use native.Mathlib.Decide.{ℕ_discrete}
 use mir.Syntax.{w32}
 use mir.Val.{SFits}
 use lib.ListN.{length}
@@ -16,7 +16,7 @@ use borrow.Author.Tests.{lt-leb, le-ltb, ne_eqb}
 use Rattle.ints.specs.Ints.{int_of}
 use Rattle.ints.proofs.Laws.{int_word, int_fits}
 use Rattle.words.specs.Words.{word, set_word}
-use Rattle.words.proofs.Laws.{set_size, word_other, word_same, words_equal}
+use Rattle.words.proofs.Laws.{set_size, word_other, word_same}
 use Rattle.framed.specs.declared.Text.{Text}
 use Rattle.framed.specs.declared.Value.{Value}
 use Rattle.heap.specs.Closed.{ValueFits}
@@ -88,35 +88,11 @@ pub record Same (a b : ℕ) (h h' : List ℕ) : Type 0 where
 pub local_trans : {a b : ℕ} {h h' h'' : List ℕ} → Local a b h h' → Local a b h' h'' → Local a b h h''
 local_trans p q = record { size = q.size ∙ p.size; away = λ k n. q.away k n ∙ p.away k n }
 
-pub local_sym : {a b : ℕ} {h h' : List ℕ} → Local a b h h' → Local a b h' h
-local_sym p = record { size = sym p.size; away = λ k n. sym (p.away k n) }
-
--- in a wider region
-pub local_wide : {a b : ℕ} {h h' : List ℕ} → Local a b h h' → (c d : ℕ) → c ≤ a → b ≤ d → Local c d h h'
-local_wide l c d le le' = record { size = l.size; away = λ k n. l.away k (λ lo hi. n (omega arith) (omega arith)) }
-
 pub local_set : (a b : ℕ) (h : List ℕ) (k x : ℕ) → a ≤ k → k < b → Local a b h (set_word h k x)
 local_set a b h k x lo hi = record { size = set_size h k x; away = λ j n. word_other _ _ _ _ _ (λ e. n (omega arith) (omega arith)) refl }
 
 pub local_same : {a b : ℕ} {h h' : List ℕ} → Local a b h h' → (c d : ℕ) → ((k : ℕ) → c ≤ k → k < d → a ≤ k → k < b → ⊥) → Same c d h h'
 local_same l c d n = record { agree = λ k lo hi. l.away k (n k lo hi) }
-
--- words that differ in one region alone and agree there are the same
-pub local_equal : {a b : ℕ} {h h' : List ℕ} → Local a b h h' → Same a b h h' → h' ≡ h
-local_equal {a} {b} {h} {h'} l s = words_equal h h' l.size (λ k. go k (dec_le a k) (dec_lt k b))
-  where
-    go : (k : ℕ) → Dec (a ≤ k) → Dec (k < b) → word h' k ≡ word h k
-    go k (yes lo) (yes hi) = s.agree k lo hi
-    go k (yes lo) (no ge) = l.away k (λ x hi. ge hi)
-    go k (no lt) d = l.away k (λ lo x. lt lo)
-
--- the same write on both
-pub local_set_both : {a b : ℕ} {h h' : List ℕ} → Local a b h h' → (k x : ℕ) → k < length h → Local a b (set_word h k x) (set_word h' k x)
-local_set_both {a} {b} {h} {h'} l k x lt = record { size = set_size h' k x ∙ l.size ∙ sym (set_size h k x); away = λ j n. go j n (ℕ_discrete j k) }
-  where
-    go : (j : ℕ) → (a ≤ j → j < b → ⊥) → Dec (j ≡ k) → word (set_word h' k x) j ≡ word (set_word h k x) j
-    go j n (yes e) = rw e (word_same h' k x (rw l.size lt) ∙ sym (word_same h k x lt))
-    go j n (no e) = word_other h' k j x (word (set_word h k x) j) e (l.away j n ∙ sym (word_other h k j x (word h j) e refl))
 
 pub same_part : {a b : ℕ} {h h' : List ℕ} → Same a b h h' → (c d : ℕ) → a ≤ c → d ≤ b → Same c d h h'
 same_part s c d le le' = record { agree = λ k lo hi. s.agree k (omega arith) (omega arith) }

@@ -2,4 +2,3 @@ pub mod Lists
 pub mod Laws
 pub mod Loops
 pub mod Held
-pub mod Counted

@@ -11,7 +11,7 @@ use borrow.Author.Tests.{le-leb, lt-leb, lt-ltb, le-ltb}
 use Rattle.ints.specs.Ints.{word_of}
 use Rattle.words.specs.Words.{set_word}
 use Rattle.framed.specs.declared.Value.{Value}
-use Rattle.heap.specs.Words.{tag_of, number_of, slot_count_at, set_slot_value, add_slot_at, add_slot_words, add_slot, take_text, text_word, text_length, frame_used, text_used}
+use Rattle.heap.specs.Words.{number_of, slot_count_at, set_slot_value, add_slot_at, add_slot, take_text, text_word, text_length, frame_used, text_used}
 use Rattle.heap.specs.Lists.{passing}
 use Rattle.heap.specs.Held.{frames_in_use, texts_in_use}
 use Rattle.heap.proofs.Lists.{passing_yes, passing_no}
@@ -20,24 +20,16 @@ use Rattle.heap.proofs.Lists.{passing_yes, passing_no}
 pub number_int : (v : Value) (z : ℤ) (r : ℕ) → v ≡ Value.Int z → r ≡ word_of z → r ≡ number_of v
 number_int v z r e q = rw (e, q)
 
--- add_slot_words
-module _ (h : List ℕ) (f x tag m n : ℕ) (en : n ≡ slot_count_at h f) where
-  pub add_full : 16 ≤ n → h ≡ add_slot_words h f x tag m
-  unfolding add_slot_words
+-- add_slot
+module _ (h : List ℕ) (f x n : ℕ) (v : Value) (en : n ≡ slot_count_at h f) where
+  pub add_full : 16 ≤ n → h ≡ add_slot h f x v
+  unfolding add_slot
   add_full le = rw (← en, le-leb 16 n le)
 
-  pub add_here : n < 16 → (i j : ℕ) → i ≡ f → j ≡ n → (h₁ h₂ h₃ h₄ : List ℕ) → h₁ ≡ set_word h (131 + 51 * i + 3 * j) x → h₂ ≡ set_word h₁ (132 + 51 * i + 3 * j) tag
-      → h₃ ≡ set_word h₂ (133 + 51 * i + 3 * j) m → h₄ ≡ set_word h₃ (129 + 51 * i) (n + 1) → h₄ ≡ add_slot_words h f x tag m
-  unfolding add_slot_words
-  add_here lt i j ei ej h₁ h₂ h₃ h₄ e₁ e₂ e₃ e₄ = rw (← en, lt-leb 16 n lt, e₄, e₃, e₂, e₁, ei, ej)
-
--- add_slot
-pub add_slot_by_words : (h : List ℕ) (f x : ℕ) (v : Value) → add_slot_words h f x (tag_of v) (number_of v) ≡ add_slot h f x v
-unfolding add_slot add_slot_at set_slot_value add_slot_words
-add_slot_by_words h f x v = refl
-
-pub added_slot : (h : List ℕ) (f x : ℕ) (v : Value) (tag m : ℕ) (h' : List ℕ) → tag ≡ tag_of v → m ≡ number_of v → h' ≡ add_slot_words h f x tag m → h' ≡ add_slot h f x v
-added_slot h f x v tag m h' et em e = e ∙ rw (et, em) (add_slot_by_words h f x v)
+  pub add_here : n < 16 → (a b c : List ℕ) (i j k : ℕ) → i ≡ f → j ≡ n → k ≡ f → a ≡ set_word h (131 + 51 * i + 3 * j) x → b ≡ set_slot_value a f n v
+      → c ≡ set_word b (129 + 51 * k) (n + 1) → c ≡ add_slot h f x v
+  unfolding add_slot add_slot_at
+  add_here lt a b c i j k ei ej ek ea eb ec = rw (← en, lt-leb 16 n lt, ec, eb, ea, ei, ej, ek)
 
 -- take_text
 pub take_long : (h : List ℕ) (k n : ℕ) → 64 < n → h ≡ take_text h k n

@@ -34,7 +34,7 @@ number_of (Value.Text t) = text_number t
 number_of (Value.Code n) = n
 number_of (Value.Frame n) = n
 
--- ---- The header: self, program, position (0, or 1 + the next instruction), end mark (0, or 31 to 37), and how much is free (document 02, A6)
+-- ---- The header: self, program, position (0, or 1 + the next instruction) and end mark (0, or 31 to 37)
 
 unfoldable pub self_held : List ℕ → Value
 self_held h = value_of (word h 0) (word h 1)
@@ -47,13 +47,6 @@ position h = word h 4
 
 unfoldable pub end_mark : List ℕ → ℕ
 end_mark h = word h 5
-
--- how many more frames, and made texts, may be in use: F and T less those in use
-unfoldable pub free_frames : List ℕ → ℕ
-free_frames h = word h 6
-
-unfoldable pub free_texts : List ℕ → ℕ
-free_texts h = word h 7
 
 unfoldable pub set_self : List ℕ → Value → List ℕ
 set_self h v = set_word (set_word h 0 (tag_of v)) 1 (number_of v)
@@ -105,13 +98,6 @@ add_slot_at h f n x v = set_word (set_slot_value (set_word h (131 + 51 * f + 3 *
 -- a frame that has 16 stays as it is
 unfoldable pub add_slot : List ℕ → ℕ → ℕ → Value → List ℕ
 add_slot h f x v = pick (leb 16 (slot_count_at h f)) h (add_slot_at h f (slot_count_at h f) x v)
-
--- the same by the tag and the number of the value
-unfoldable pub add_slot_words : List ℕ → ℕ → ℕ → ℕ → ℕ → List ℕ
-add_slot_words h f x tag n =
-    let c = slot_count_at h f in
-    let named = set_word h (131 + 51 * f + 3 * c) x in
-    pick (leb 16 c) h (set_word (set_word (set_word named (132 + 51 * f + 3 * c) tag) (133 + 51 * f + 3 * c) n) (129 + 51 * f) (c + 1))
 
 -- in use, with no slots, of the maker m
 unfoldable pub take_frame : List ℕ → ℕ → ℕ → List ℕ

@@ -1,11 +1,11 @@
 // Heap words and text bytes, field by field (docs/LAYOUT.md). Every function is total: past the end a read gives 0 and a write does nothing.
-ghost use Rattle.std.specs.Prelude.{◌≡◌, ◌-◌};
-ghost use Rattle.heap.specs.Words.{value_of, tag_of, number_of, self_held, program_held, position, end_mark, free_frames, free_texts};
+ghost use Rattle.std.specs.Prelude.{◌≡◌, length};
+ghost use Rattle.heap.specs.Words.{value_of, tag_of, number_of, self_held, program_held, position, end_mark};
 ghost use Rattle.heap.specs.Words.{frame_word, frame_used, slot_count_at, maker_at, slot_name_at, slot_tag_at, slot_number_at, slot_value_at};
 ghost use Rattle.heap.specs.Words.{text_word, text_used, text_length, text_byte};
-ghost use Rattle.heap.specs.Words.{set_self, set_program, set_position, set_end_mark, set_slot_value, add_slot_words, add_slot, take_frame, free_frame};
+ghost use Rattle.heap.specs.Words.{set_self, set_program, set_position, set_end_mark, set_slot_value, add_slot, take_frame, free_frame};
 ghost use Rattle.heap.specs.Words.{take_text, free_text};
-ghost use Rattle.heap.specs.Counted.{with_counts, one_frame_less, one_text_less};
+ghost use Rattle.heap.specs.Held.{frames_in_use, texts_in_use};
 
 use framed::{Text, Value};
 
@@ -57,19 +57,7 @@ pub fn number_of(v: Value) -> u32
     }
 }
 
-// ---- Counts
-
-// a less b; 0 where b is more.
-pub fn less(a: u32, b: u32) -> u32
-    ensures { result ≡ a - b }
-{
-    if a < b {
-        return 0;
-    }
-    a - b
-}
-
-// ---- The header: self, program, position, end mark, and how many frames and made texts are free
+// ---- The header: self, program, position, end mark
 
 pub fn self_value(h: &[u32]) -> Value
     ensures { result ≡ self_held h.now }
@@ -97,20 +85,6 @@ pub fn end_mark(h: &[u32]) -> u32
     words::word(h, 5)
 }
 
-// F less the frames in use
-pub fn free_frames(h: &[u32]) -> u32
-    ensures { result ≡ free_frames h.now }
-{
-    words::word(h, 6)
-}
-
-// T less the made texts in use
-pub fn free_texts(h: &[u32]) -> u32
-    ensures { result ≡ free_texts h.now }
-{
-    words::word(h, 7)
-}
-
 pub fn set_self(h: &mut [u32], v: Value)
     ensures { h.new ≡ set_self h.old v }
 {
@@ -135,27 +109,6 @@ pub fn set_end_mark(h: &mut [u32], e: u32)
     ensures { h.new ≡ set_end_mark h.old e }
 {
     words::set_word(h, 5, e);
-}
-
-pub fn set_counts(h: &mut [u32], frames: u32, texts: u32)
-    ensures { h.new ≡ with_counts h.old frames texts }
-{
-    words::set_word(h, 6, frames);
-    words::set_word(h, 7, texts);
-}
-
-// One free frame less; none stays none.
-pub fn one_frame_less(h: &mut [u32])
-    ensures { h.new ≡ one_frame_less h.old }
-{
-    words::set_word(h, 6, less(free_frames(h), 1));
-}
-
-// One free made text less; none stays none.
-pub fn one_text_less(h: &mut [u32])
-    ensures { h.new ≡ one_text_less h.old }
-{
-    words::set_word(h, 7, less(free_texts(h), 1));
 }
 
 // ---- Frames
@@ -221,27 +174,17 @@ pub fn set_slot_value(h: &mut [u32], f: u32, i: u32, v: Value)
     );
 }
 
-// One slot more at the end, of a value with this tag and number; a frame with 16 slots or more stays as it is.
-pub fn add_slot_words(h: &mut [u32], f: u32, name: u32, tag: u32, number: u32)
-    ensures { h.new ≡ add_slot_words h.old f name tag number }
+// One slot more at the end; a frame with 16 slots or more stays as it is.
+pub fn add_slot(h: &mut [u32], f: u32, name: u32, v: Value)
+    ensures { h.new ≡ add_slot h.old f name v }
 {
     let n = slot_count(h, f);
     if 16 <= n {
         return;
     }
-    let a = 51 * words::wide(f);
-    let b = 3 * words::wide(n);
-    words::set_word(h, 131 + a + b, name);
-    words::set_word(h, 132 + a + b, tag);
-    words::set_word(h, 133 + a + b, number);
-    words::set_word(h, 129 + a, n + 1);
-}
-
-// The same of a value.
-pub fn add_slot(h: &mut [u32], f: u32, name: u32, v: Value)
-    ensures { h.new ≡ add_slot h.old f name v }
-{
-    add_slot_words(h, f, name, tag_of(v), number_of(v));
+    words::set_word(h, 131 + 51 * words::wide(f) + 3 * words::wide(n), name);
+    set_slot_value(h, f, n, v);
+    words::set_word(h, 129 + 51 * words::wide(f), n + 1);
 }
 
 // In use, with no slots, of the maker m.
@@ -305,4 +248,34 @@ pub fn free_text(h: &mut [u32], k: u32)
     ensures { h.new ≡ free_text h.old k }
 {
     words::set_word(h, 13184 + words::wide(k), 0);
+}
+
+// ---- How many are in use
+
+pub fn count_frames(h: &[u32]) -> u32
+    ensures { result ≡ length (frames_in_use h.now) }
+{
+    let mut n = 0u32;
+    let mut f = 0u32;
+    while f < 256 {
+        if frame_used(h, f) {
+            n += 1;
+        }
+        f += 1;
+    }
+    n
+}
+
+pub fn count_texts(h: &[u32]) -> u32
+    ensures { result ≡ length (texts_in_use h.now) }
+{
+    let mut n = 0u32;
+    let mut k = 0u32;
+    while k < 256 {
+        if text_used(h, k) {
+            n += 1;
+        }
+        k += 1;
+    }
+    n
 }

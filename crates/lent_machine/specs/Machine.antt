@@ -8,7 +8,7 @@ use Rattle.framed.specs.Alike.{Alike}
 use Rattle.framed.specs.Demands.{Memories, Loading, Running, Collecting, Writing, Counting, LentMachine}
 use Rattle.tables.specs.Fields.{frame_limit, text_limit}
 use Rattle.trees.specs.Held.{program_held}
-use Rattle.heap.specs.Words.{end_mark, free_frames, free_texts}
+use Rattle.heap.specs.Words.{end_mark}
 use Rattle.heap.specs.Held.{frames_in_use, texts_in_use}
 use Rattle.wellformed.specs.WellFormed.{WellFormed}
 use Rattle.wellformed.specs.Held.{state_held}
@@ -57,8 +57,6 @@ machine_with others =
       state_in = λ m. state_held m.program m.heap m.text;
       frames_in_use = λ m. frames_in_use m.heap;
       texts_in_use = λ m. texts_in_use m.heap;
-      free_frames_in = λ m. free_frames m.heap;
-      free_texts_in = λ m. free_texts m.heap;
     }
 
 -- memories as a load of the program q with the limits F and T leaves them

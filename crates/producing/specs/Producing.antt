@@ -1,5 +1,5 @@
 -- Document 01, "The endless machine", expressions that make no frame, over the words; what is made is that of the bounded machine's `produce` on the store that
--- the words are. The words of self, program, position and end mark stay as they are, and what is taken into use is counted. Assumes nothing.
+-- the words are. The words of self, program, position and end mark stay as they are. Assumes nothing.
 use Rattle.std.specs.Prelude.{ℕ, ◌+◌, ◌*◌, ◌≤◌, ◌<◌, ◌≡◌, not, List, length}
 use Rattle.words.specs.Words.{word}
 use Rattle.framed.specs.declared.Value.{Value}
@@ -9,10 +9,9 @@ use Rattle.framed.specs.Machine.{Result, ◌>>=◌, is_join}
 use Rattle.tables.specs.declared.ExpressionEntry.{ExpressionEntry}
 use Rattle.tables.specs.Entries.{expression_at}
 use Rattle.program_form.specs.WellFormed.{WellFormed}
-use Rattle.heap.specs.Words.{free_frames, free_texts, take_text}
+use Rattle.heap.specs.Words.{take_text}
 use Rattle.heap.specs.Held.{texts_held, frames_in_use, texts_in_use}
 use Rattle.heap.specs.Closed.{Sized, FrameInUse, TextInUse}
-use Rattle.heap.specs.Counted.{one_text_less}
 use Rattle.allocation.specs.Allocation.{next_text}
 use Rattle.texts.specs.Texts.{Readable}
 use Rattle.splice.specs.Splice.{splice}
@@ -28,16 +27,14 @@ use Rattle.operators.specs.Operators.{operator_of}
 
 -- ---- What is written, and what it leaves
 
--- self, program, position and end mark are those of before
+-- the words of the header are those of before
 pub record HeaderKept (h h' : List ℕ) : Type 0 where
   pub agree : (k : ℕ) → k < 6 → word h' k ≡ word h k
 
--- there are numbers for f more frames and n more made texts, and so many are free
+-- there are numbers for f more frames and n more made texts
 pub record HasRoom (h : List ℕ) (f n : ℕ) : Type 0 where
   pub frames : length (frames_in_use h) + f ≤ 256
   pub texts : length (texts_in_use h) + n ≤ 256
-  pub free_frames : f ≤ free_frames h
-  pub free_texts : n ≤ free_texts h
 
 -- what well-formed memories (document 01: whole) have of this
 pub record Writable (p l h t : List ℕ) : Type 0 where
@@ -45,7 +42,7 @@ pub record Writable (p l h t : List ℕ) : Type 0 where
   pub sized : Sized h
   pub text_size : length t ≡ 16384
 
--- at most f more frames and n more made texts in use, none fewer, and each counted; no other word of the header differs
+-- at most f more frames and n more made texts in use, none fewer; no word of the header differs
 pub record Leaves (h t : List ℕ) (f n : ℕ) (h' t' : List ℕ) : Type 0 where
   pub header : HeaderKept h h'
   pub stay : (g : ℕ) → FrameInUse h g → FrameInUse h' g
@@ -54,8 +51,6 @@ pub record Leaves (h t : List ℕ) (f n : ℕ) (h' t' : List ℕ) : Type 0 where
   pub text_size : length t' ≡ 16384
   pub frames : length (frames_in_use h') ≤ length (frames_in_use h) + f
   pub texts : length (texts_in_use h') ≤ length (texts_in_use h) + n
-  pub frames_counted : length (frames_in_use h') + free_frames h' ≡ length (frames_in_use h) + free_frames h
-  pub texts_counted : length (texts_in_use h') + free_texts h' ≡ length (texts_in_use h) + free_texts h
 
 abbrev pub made : Value → List ℕ → List ℕ → Produced Memories
 made r h t = record { value = r; store = store_held h t }
@@ -82,7 +77,7 @@ read_value p h x = read_entry p h x (expression_at p x)
 -- a new made text of bytes bs: the answer and the memories
 pub record MakesText (h t bs : List ℕ) (r : Value) (h' t' : List ℕ) : Type 0 where
   pub answer : r ≡ Value.Text (Text.Made (next_text h))
-  pub words : h' ≡ one_text_less (take_text h (next_text h) (length bs))
+  pub words : h' ≡ take_text h (next_text h) (length bs)
   pub bytes : t' ≡ splice t (64 * next_text h) bs
 
 pub record CanJoin (p l h t : List ℕ) (v w : Value) : Type 0 where
@@ -92,7 +87,7 @@ pub record CanJoin (p l h t : List ℕ) (v w : Value) : Type 0 where
 -- the answer and the memories after `#`
 pub record Joins (p l h t : List ℕ) (v w r : Value) (h' t' : List ℕ) : Type 0 where
   pub answer : r ≡ Value.Text (Text.Made (next_text h))
-  pub words : h' ≡ one_text_less (take_text h (next_text h) (shown_size p h v + shown_size p h w))
+  pub words : h' ≡ take_text h (next_text h) (shown_size p h v + shown_size p h w)
   pub bytes : t' ≡ join_written p l h t (next_text h) v w
 
 pub record CanProduce (p l h t : List ℕ) (k : ℕ) : Type 0 where

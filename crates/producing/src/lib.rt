@@ -33,7 +33,7 @@ pub fn read(p: &[u32], h: &[u32], x: u32) -> Value
     Value::Int(1)
 }
 
-// A new made text with these bytes, which is counted; those below `low` are in use.
+// A new made text with these bytes; those below `low` are in use.
 pub fn make_text(h: &mut [u32], t: &mut [u8], s: &[u8], low: u32) -> Value
     requires s_len_bound { length s.now ≤ 64 }
     requires texts_full { TextsFull h.old low }
@@ -42,7 +42,6 @@ pub fn make_text(h: &mut [u32], t: &mut [u8], s: &[u8], low: u32) -> Value
     let k = allocation::lowest_text(h, low);
     splice::write(t, 64 * words::wide(k), s);
     heap::take_text(h, k, s.len() as u32);
-    heap::one_text_less(h);
     Value::Text(Text::Made(k))
 }
 

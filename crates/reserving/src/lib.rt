@@ -1,29 +1,38 @@
-// Reserve (document 01: room): whether f more frames and t more made texts fit, by the counts that the heap words keep; where they do not, a collection, and then the
-// same once more.
+// Reserve (document 01: room): whether f more frames and t more made texts fit; where they do not, a collection, and then the same once more. What is known of the numbers
+// in use may say at once that they fit; else they are counted.
 ghost use Rattle.std.specs.Prelude.{◌≡◌};
+ghost use Rattle.heap.specs.Closed.{Closed};
 ghost use Rattle.allocation.specs.Known.{FullBelow, TextsFull, Full, Knows};
-ghost use Rattle.reserving.specs.Reserving.{free_end, Reservable, Reserves, lowest_frame_for, lowest_text_for, sought};
+ghost use Rattle.reserving.specs.Reserving.{added, Reserves, lowest_frame_for, lowest_text_for, sought, CountedTo, TextsCounted, Reckons};
 
 use allocation::Known;
 
-// The end, 0 where there is room, and what is known then.
+// The end, 0 where there is room, and what is known then. Where there is room the f frames and t texts are counted in.
 #[derive(Drop)]
 pub struct Reserved {
     pub end: u32,
     pub known: Known,
 }
 
-// The end, by what is free: 36 where fewer than f frames are, else 37 where fewer than t made texts are, else 0.
-fn room(h: &[u32], f: u32, t: u32) -> u32
-    ensures { result ≡ free_end h.now f t }
+// The end, if so many are in use: 36 where the frames plus f exceed F, else 37 where the made texts plus t exceed T, else 0, and then they are counted in.
+fn add(p: &[u32], f: u32, t: u32, k: Known) -> Reserved
+    ensures { result ≡ added p.now f t k }
 {
-    if heap::free_frames(h) < f {
-        return 36;
+    if words::wide(tables::frame_limit(p)) < words::wide(k.frames) + words::wide(f) {
+        return Reserved { end: 36, known: k };
     }
-    if heap::free_texts(h) < t {
-        return 37;
+    if words::wide(tables::text_limit(p)) < words::wide(k.texts) + words::wide(t) {
+        return Reserved { end: 37, known: k };
     }
-    0
+    Reserved {
+        end: 0,
+        known: Known {
+            frames: k.frames + f,
+            texts: k.texts + t,
+            low: k.low,
+            least: k.least,
+        },
+    }
 }
 
 // Where frames are to be made, the lowest that is free is looked for once.
@@ -48,33 +57,88 @@ fn lowest_text_for(h: &[u32], t: u32, low: u32) -> u32
     allocation::lowest_text(h, low)
 }
 
-// Both, beside the end.
-fn seek(h: &[u32], f: u32, t: u32, end: u32, k: Known) -> Reserved
-    requires { Knows h.now k }
-    ensures { result ≡ sought h.now f t end k }
+// Both.
+fn seek(h: &[u32], f: u32, t: u32, r: Reserved) -> Reserved
+    requires { Full h.now r.known.low r.known.least }
+    ensures { result ≡ sought h.now f t r }
 {
-    let low = lowest_frame_for(h, f, k.low);
-    let least = lowest_text_for(h, t, k.least);
+    let low = lowest_frame_for(h, f, r.known.low);
+    let least = lowest_text_for(h, t, r.known.least);
     Reserved {
-        end: end,
+        end: r.end,
         known: Known {
+            frames: r.known.frames,
+            texts: r.known.texts,
             low: low,
             least: least,
         },
     }
 }
 
+// How many frames are in use. Where f more do not fit below the limit, it may stop before it has counted all.
+fn count_frames(h: &[u32], limit: u32, f: u32) -> u32
+    ensures { CountedTo h.now limit f result }
+{
+    if limit < f {
+        return 0;
+    }
+    let most = limit - f;
+    let mut n = 0u32;
+    let mut g = 0u32;
+    while g < 256 {
+        if heap::frame_used(h, g) {
+            n += 1;
+        }
+        g += 1;
+        if most < n {
+            return n;
+        }
+    }
+    n
+}
+
+// How many made texts are in use. Where f more than so many frames do not fit, that is enough, and none are counted.
+fn count_texts(h: &[u32], limit: u32, f: u32, frames: u32) -> u32
+    ensures { TextsCounted h.now limit f frames result }
+{
+    if limit < f {
+        return 0;
+    }
+    if limit - f < frames {
+        return 0;
+    }
+    heap::count_texts(h)
+}
+
 // Collects only where there is no room. The end is that which stands then.
 pub fn reserve(p: &[u32], h: &mut [u32], f: u32, t: u32, k: Known) -> Reserved
-    requires reservable { Reservable p.now h.old }
-    requires knows_2 { Knows h.old k }
+    requires closed { Closed h.old }
+    requires knows_2 { Knows h.old 0 0 k }
     ensures exact { Reserves p.now h.old f t result.end h.new }
-    ensures knows { Knows h.new result.known }
+    ensures knows { Reckons h.new f t result }
 {
-    if room(h, f, t) == 0 {
-        return seek(h, f, t, 0, k);
+    let a = add(p, f, t, k);
+    if a.end == 0 {
+        return seek(h, f, t, a);
     }
-    collector::collect_counted(h, tables::frame_limit(p), tables::text_limit(p));
-    let none = Known { low: 0, least: 0 };
-    seek(h, f, t, room(h, f, t), none)
+    let limit = tables::frame_limit(p);
+    let frames = count_frames(h, limit, f);
+    let c = Known {
+        frames: frames,
+        texts: count_texts(h, limit, f, frames),
+        low: k.low,
+        least: k.least,
+    };
+    let b = add(p, f, t, c);
+    if b.end == 0 {
+        return seek(h, f, t, b);
+    }
+    let n = collector::collect_heap(h);
+    let d = Known {
+        frames: n.frames,
+        texts: n.texts,
+        low: 0,
+        least: 0,
+    };
+    seek(h, f, t, add(p, f, t, d))
 }

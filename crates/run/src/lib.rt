@@ -21,9 +21,14 @@ fn stop_after(o: Outcome) -> Stop
 
 // What is known of the numbers in use in any words.
 fn nothing_known() -> Known
-    ensures { result ≡ record { low = 0; least = 0 } }
+    ensures { result ≡ record { frames = 256; texts = 256; low = 0; least = 0 } }
 {
-    Known { low: 0, least: 0 }
+    Known {
+        frames: 256,
+        texts: 256,
+        low: 0,
+        least: 0,
+    }
 }
 
 // Step after step, until the first stop.

@@ -4,9 +4,8 @@ use Rattle.std.specs.Prelude.{◌≡◌, List, ℕ}
 use Rattle.framed.specs.Machine.{start}
 use Rattle.framed.specs.Program.{Program}
 use Rattle.framed.specs.Alike.{Renaming, Alike}
-use Rattle.tables.specs.Fields.{frame_limit, text_limit, codes}
+use Rattle.tables.specs.Fields.{frame_limit, codes}
 use Rattle.heap.specs.Words.{end_mark}
-use Rattle.heap.specs.Counted.{Counted}
 use Rattle.program_form.specs.WellFormed.{WellFormed}
 use Rattle.trees.specs.Held.{program_held}
 use Rattle.shapes.specs.Numbers.{slots_size}
@@ -35,7 +34,6 @@ pub record StartHeld (p l : List ℕ) (q : Program) : Type 0 where
   pub can_start : CanStart p l (cleared 16384) (cleared 16384)
   -- the state is well-formed (document 01: whole)
   pub formed : StateWellFormed (start_heap p l) (cleared 16384) (limits p)
-  pub counted : Counted (start_heap p l) (frame_limit p) (text_limit p)
   pub unmarked : end_mark (start_heap p l) ≡ 0
   pub alike : Alike (start q) (state_held p (start_heap p l) (cleared 16384))
   pub no_renaming : alike.renaming ≡ same_numbers

@@ -4,12 +4,11 @@ ghost use Rattle.start_state.specs.Start.{new_self, rooted, CanStart, Makes, Sta
 
 use framed::Value;
 
-// The written frames outside code, of the F frames that are free at first: the number of the program frame.
+// The written frames outside code: the number of the program frame.
 fn make_written(p: &[u32], l: &[u8], h: &mut [u32], t: &mut [u8]) -> u32
     requires { CanStart p.now l.now h.old t.old }
     ensures { Makes p.now l.now result h.new t.new }
 {
-    heap::set_counts(h, tables::frame_limit(p), tables::text_limit(p));
     let f = evaluation::claim(h, 0);
     let z = tables::program_slots(p);
     evaluation::fill(p, l, h, t, f, z, 0, 0);

@@ -1,7 +1,7 @@
 // Whether heap words and text bytes are well-formed (document 01: whole), the half of that paragraph which is about them. No function here has a `requires`.
 // Values and frames are tested in `frame_form`, made texts in `text_form`.
 ghost use Rattle.std.specs.Prelude.{◌≡◌};
-ghost use Rattle.state_form.specs.Tests.{roots_formed, position_formed, end_formed, parts_formed, state_well_formed};
+ghost use Rattle.state_form.specs.Tests.{roots_formed, counts_formed, position_formed, end_formed, parts_formed, state_well_formed};
 
 use frame_form::Limits;
 
@@ -10,6 +10,12 @@ fn roots_formed(h: &[u32], limits: Limits) -> bool
 {
     frame_form::value_formed(h, limits, words::word(h, 0), words::word(h, 1))
         & frame_form::value_formed(h, limits, words::word(h, 2), words::word(h, 3))
+}
+
+fn counts_formed(h: &[u32], limits: Limits) -> bool
+    ensures { result ≡ counts_formed h.now limits }
+{
+    (heap::count_frames(h) <= limits.frames) & (heap::count_texts(h) <= limits.texts)
 }
 
 fn position_formed(h: &[u32], limits: Limits) -> bool
@@ -30,7 +36,8 @@ fn parts_formed(h: &[u32], t: &[u8], limits: Limits) -> bool
 {
     roots_formed(h, limits)
         & frame_form::frames_formed(h, limits)
-        & text_form::texts_formed(h, t, limits.texts)
+        & text_form::texts_formed(h, t)
+        & counts_formed(h, limits)
         & position_formed(h, limits)
         & end_formed(h)
 }

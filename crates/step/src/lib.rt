@@ -34,7 +34,7 @@ fn joined(p: &[u32], l: &[u8], h: &mut [u32], t: &mut [u8], i: u32, k: Known) ->
     requires i_value { joins_entry p.now i ≡ true }
     requires room_for { RoomFor p.now h.old i k }
     ensures exact { AttemptsQuietly p.now l.now h.old t.old i result.outcome h.new t.new }
-    ensures knows { Knows h.new result.known }
+    ensures knows { Knows h.new 0 0 result.known }
 {
     let met = step_join::assign_join(p, l, h, t, i, k.least);
     if met != 0 {
@@ -63,9 +63,9 @@ fn reserved(
 ) -> Tried
     requires can_attempt { CanAttempt p.now l.now h.old t.old i out.old used }
     requires makes_or_shows { MakesOrShows p.now i }
-    requires knows_2 { Knows h.old k }
+    requires knows_2 { Knows h.old 0 0 k }
     ensures exact { Attempts p.now l.now h.old t.old i out.old used result.outcome h.new t.new out.new }
-    ensures knows { Knows h.new result.known }
+    ensures knows { Knows h.new 0 0 result.known }
 {
     let s = step_parts::reserve_for(p, h, i, k);
     let full = s.end;
@@ -95,9 +95,9 @@ pub fn attempt(
     k: Known,
 ) -> Tried
     requires can_attempt { CanAttempt p.now l.now h.old t.old i out.old used }
-    requires knows_2 { Knows h.old k }
+    requires knows_2 { Knows h.old 0 0 k }
     ensures exact { Attempts p.now l.now h.old t.old i out.old used result.outcome h.new t.new out.new }
-    ensures knows { Knows h.new result.known }
+    ensures knows { Knows h.new 0 0 result.known }
 {
     let d = direct(p, l, h, t, i);
     if d == 0 {

@@ -6,6 +6,8 @@ use Rattle.framed.specs.Machine.{frame_literals, join_signs, right_side}
 use Rattle.tables.specs.Fields.{frame_limit, text_limit, instructions, instruction_after}
 use Rattle.trees.specs.Held.{program_held, instruction_held, remaining}
 use Rattle.heap.specs.Words.{position, end_mark, set_end_mark}
+use Rattle.heap.specs.Held.{frames_in_use, texts_in_use}
+use Rattle.heap.specs.Closed.{Closed}
 use Rattle.places.specs.Places.{AtInstruction}
 use Rattle.texts.specs.Texts.{Readable}
 use Rattle.splice.specs.Splice.{splice}
@@ -16,7 +18,7 @@ use Rattle.word_store.specs.Store.{Memories, word_store}
 use Rattle.word_store.specs.State.{HeaderFormed}
 use Rattle.allocation.specs.declared.Known.{Known}
 use Rattle.allocation.specs.Known.{Knows}
-use Rattle.reserving.specs.Reserving.{room_end_held, reserved_words, Reservable}
+use Rattle.reserving.specs.Reserving.{room_end_held, reserved_words}
 use Rattle.commit.specs.Commit.{state_of}
 use Rattle.commit.specs.Words.{heap_of, WordsFit}
 use Rattle.step_parts.specs.declared.Shown.{Shown}
@@ -33,16 +35,18 @@ texts_for p i = join_signs (right_side (instruction_held p i))
 
 pub record CanReserve (p h : List ℕ) (i : ℕ) : Type 0 where
   pub at : AtInstruction p i
-  pub reservable : Reservable p h
+  pub closed : Closed h
+  pub frames_few : length (frames_in_use h) ≤ frame_limit p
+  pub texts_few : length (texts_in_use h) ≤ text_limit p
 
 -- heap words after it
 unfoldable pub ready_words : List ℕ → List ℕ → ℕ → List ℕ
 ready_words p h i = reserved_words p h (frames_for p i) (texts_for p i)
 
--- there is room for what instruction i makes
+-- there is room for what instruction i makes, which is counted in
 pub record RoomFor (p h : List ℕ) (i : ℕ) (k : Known) : Type 0 where
   pub room : 0 ≡ room_end_held p h (frames_for p i) (texts_for p i)
-  pub knows : Knows h k
+  pub knows : Knows h (frames_for p i) (texts_for p i) k
 
 -- ---- The end
 
@@ -92,7 +96,7 @@ module _ (p l h t : List ℕ) (i : ℕ) where
   committed = commit word_store (program_held p l) (state_of p h t) (remaining p (instruction_after p i)) (instruction_held p i)
 
   unfoldable pub committed_heap : List ℕ
-  committed_heap = heap_of (frame_limit p) (text_limit p) committed
+  committed_heap = heap_of committed
 
   unfoldable pub committed_text : List ℕ
   committed_text = committed.store.text

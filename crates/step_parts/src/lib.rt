@@ -2,7 +2,7 @@
 ghost use Rattle.step_parts.specs.Step.{CanReserve, RoomFor, CanShow, Shows, CanAttempt, Attempts};
 ghost use Rattle.step_parts.specs.Step.{frames_for, texts_for};
 ghost use Rattle.allocation.specs.Known.{Knows};
-ghost use Rattle.reserving.specs.Reserving.{Reserves};
+ghost use Rattle.reserving.specs.Reserving.{Reserves, Reckons};
 ghost use Rattle.checking.specs.Checking.{AssignsOrShows};
 
 use allocation::Known;
@@ -31,12 +31,12 @@ pub struct Tried {
     pub known: Known,
 }
 
-// Room for what instruction i makes: 36, 37 or 0. One that makes nothing asks for none.
+// Room for what instruction i makes: 36, 37 or 0. One that makes nothing counts nothing.
 pub fn reserve_for(p: &[u32], h: &mut [u32], i: u32, k: Known) -> Reserved
     requires can_reserve { CanReserve p.now h.old i }
-    requires knows_2 { Knows h.old k }
+    requires knows_2 { Knows h.old 0 0 k }
     ensures exact { Reserves p.now h.old (frames_for p.now i) (texts_for p.now i) result.end h.new }
-    ensures knows { Knows h.new result.known }
+    ensures knows { Reckons h.new (frames_for p.now i) (texts_for p.now i) result }
 {
     let n = needs::needed(p, i);
     if n == 0 {
@@ -84,7 +84,7 @@ pub fn in_parts(
     requires assigns_or_shows { AssignsOrShows p.now i }
     requires room_for { RoomFor p.now h.old i k }
     ensures exact { Attempts p.now l.now h.old t.old i out.old used result.outcome h.new t.new out.new }
-    ensures knows { Knows h.new result.known }
+    ensures knows { Knows h.new 0 0 result.known }
 {
     let e = checking::check(p, l, h, t, i);
     if e != 0 {

@@ -6,7 +6,6 @@ use Rattle.program_form.specs.WellFormed as program
 use Rattle.program_form.specs.WellFormed.{program_well_formed}
 use Rattle.program_form.specs.Sound.{Sound}
 use Rattle.heap.specs.Closed.{Closed}
-use Rattle.heap.specs.Counted.{Counted}
 use Rattle.frame_form.specs.declared.Limits.{Limits}
 use Rattle.state_form.specs.Form.{StateWellFormed}
 use Rattle.state_form.specs.Tests.{state_well_formed}
@@ -26,8 +25,6 @@ limits p =
 pub record WellFormed (p h l t : List ℕ) : Type 0 where
   pub program : program.WellFormed p l
   pub state : StateWellFormed h t (limits p)
-  -- document 02, A6
-  pub counted : Counted h (frame_limit p) (text_limit p)
 
 -- as one fact, in the order in which a step takes the memories
 unfoldable pub Formed : (p l h t : List ℕ) → Type 0

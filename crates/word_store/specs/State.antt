@@ -1,18 +1,17 @@
 -- docs/LAYOUT.md, "Heap words": the state of the bounded machine that heap words and text bytes hold, what it is after each updater of the words, and that it is
 -- well-formed (document 01: whole) where they are, and back. Assumes nothing.
-use Rattle.std.specs.Prelude.{ℕ, ◌≤◌, ◌<◌, ◌≡◌, List, length}
+use Rattle.std.specs.Prelude.{ℕ, ◌≤◌, ◌≡◌, List, length}
 use Rattle.words.specs.Words.{word}
 use Rattle.framed.specs.declared.Value.{Value}
 use Rattle.framed.specs.Tree.{Code}
 use Rattle.framed.specs.Paths.{Path}
 use Rattle.framed.specs.Program.{Program}
-use Rattle.heap.specs.Words.{self_held, program_held, position, end_mark, free_frames, free_texts, set_self, set_program, set_position, set_end_mark, add_slot, take_text}
-use Rattle.heap.specs.Closed.{Sized, ValueFits, FrameInUse}
+use Rattle.heap.specs.Words.{self_held, program_held, position, end_mark, set_self, set_program, set_position, set_end_mark, add_slot, take_text}
+use Rattle.heap.specs.Closed.{ValueFits}
 use Rattle.heap.specs.Held.{frames_in_use, texts_in_use}
-use Rattle.heap.specs.Counted.{Counted, with_counts, one_frame_less, one_text_less}
 use Rattle.allocation.specs.Allocation.{next_frame, next_text, view_held}
 use Rattle.puts.specs.Puts.{put_slot}
-use Rattle.collector.specs.Collect.{collect_heap, collect_counted}
+use Rattle.collector.specs.Collect.{collect_heap}
 use Rattle.frame_form.specs.declared.Limits.{Limits}
 use Rattle.state_form.specs.Form.{StateWellFormed}
 use Rattle.bounded.specs.Store.{Laws}
@@ -66,8 +65,6 @@ module _ (remaining_from : ℕ → Code Path) (h t : List ℕ) where
     pub program : (v : Value) → ValueFits v → state_held remaining_from (set_program h v) t ≡ with_program v now
     pub position : (i : ℕ) → state_held remaining_from (set_position h i) t ≡ with_remaining (remaining_from i) i now
     pub end_mark : (e : ℕ) → state_held remaining_from (set_end_mark h e) t ≡ with_mark e now
-    -- the counts are not part of the state
-    pub counts : (f n : ℕ) → state_held remaining_from (with_counts h f n) t ≡ now
     pub frame : (m : ℕ) → state_held remaining_from (claim_frame h m) t ≡ over_store now (word_store.claim_frame now.store m)
     pub push : (n x : ℕ) (v : Value) → state_held remaining_from (add_slot h n x v) t ≡ over_store now (word_store.push now.store n x v)
     pub assign : (n x : ℕ) (v : Value) → state_held remaining_from (put_slot h n x v) t ≡ over_store now (word_store.assign now.store n x v)
@@ -77,25 +74,23 @@ module _ (remaining_from : ℕ → Code Path) (h t : List ℕ) where
 
 -- ---- Well-formed, both ways
 
--- what the state held does not tell of the header: a tag above 4 is read as a frame's, several positions may have the same instructions, and the counts may be wrong
+-- what the state held does not tell of the header: a tag above 4 is read as a frame's, and several positions may have the same instructions
 pub record HeaderFormed (h : List ℕ) (l : Limits) : Type 0 where
   pub self_tag : word h 0 ≤ 4
   pub program_tag : word h 2 ≤ 4
   pub position_there : position h ≤ l.instructions
-  pub counted : Counted h l.frames l.texts
 
--- every updater keeps it; what takes a frame or a made text into use counts it, and a collection counts anew
+-- every updater keeps it
 pub record HeaderAfter (h : List ℕ) (l : Limits) : Type 0 where
   pub self : (v : Value) → HeaderFormed (set_self h v) l
   pub program : (v : Value) → HeaderFormed (set_program h v) l
   pub position : (i : ℕ) → i ≤ l.instructions → HeaderFormed (set_position h i) l
   pub end_mark : (e : ℕ) → HeaderFormed (set_end_mark h e) l
-  pub frame : (m : ℕ) → Sized h → length (frames_in_use h) < 256 → 1 ≤ free_frames h → HeaderFormed (one_frame_less (claim_frame h m)) l
-  pub push : (n x : ℕ) (v : Value) → Sized h → FrameInUse h n → HeaderFormed (add_slot h n x v) l
-  pub assign : (n x : ℕ) (v : Value) → Sized h → FrameInUse h n → HeaderFormed (put_slot h n x v) l
-  pub text : (n : ℕ) → Sized h → length (texts_in_use h) < 256 → 1 ≤ free_texts h → n ≤ 64 → HeaderFormed (one_text_less (take_text h (next_text h) n)) l
-  pub collect : length (frames_in_use (collect_heap h).words) ≤ l.frames → length (texts_in_use (collect_heap h).words) ≤ l.texts →
-      HeaderFormed (collect_counted l.frames l.texts h).words l
+  pub frame : (m : ℕ) → HeaderFormed (claim_frame h m) l
+  pub push : (n x : ℕ) (v : Value) → HeaderFormed (add_slot h n x v) l
+  pub assign : (n x : ℕ) (v : Value) → HeaderFormed (put_slot h n x v) l
+  pub text : (k n : ℕ) → HeaderFormed (take_text h k n) l
+  pub collect : HeaderFormed (collect_heap h).words l
 
 module _ (q : Program) (l : Limits) (𝓛 : Laws word_store q) (remaining_from : ℕ → Code Path) where
   -- the state that the memories hold is well-formed (document 01: whole)

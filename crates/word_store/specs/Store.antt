@@ -1,6 +1,6 @@
--- docs/LAYOUT.md, "Heap words" and text bytes, as a store of the bounded machine (document 01, "The calls"). Self, program, position, end mark and the counts of
--- what is free are not the store's: where heap words are taken as a store, these words of the header are cleared. Assumes nothing.
-use Rattle.std.specs.Prelude.{ℕ, zero, suc, ◌+◌, List, [], ◌∷◌, length}
+-- docs/LAYOUT.md, "Heap words" and text bytes, as a store of the bounded machine (document 01, "The calls"). Self, program, position and end mark are not the
+-- store's: where heap words are taken as a store, these words of the header are cleared. Assumes nothing.
+use Rattle.std.specs.Prelude.{ℕ, ◌+◌, List, [], ◌∷◌, length}
 use Rattle.framed.specs.declared.Value.{Value}
 use Rattle.words.specs.Words.{set_word}
 use Rattle.heap.specs.Words.{set_self, set_program, add_slot, take_frame, take_text, set_text_byte}
@@ -20,17 +20,9 @@ memories h t = record { heap = h; text = t }
 
 -- ---- The header
 
--- 0 in the words below n
-unfoldable pub clear_below : ℕ → List ℕ → List ℕ
-clear_below zero h = h
-clear_below (suc n) h = set_word (clear_below n h) n 0
-
--- so many words are the header's
-abbrev pub header_size : ℕ
-header_size = 8
-
+-- 0 in the words of self, program, position and end mark
 unfoldable pub clear_header : List ℕ → List ℕ
-clear_header h = clear_below header_size h
+clear_header h = set_word (set_word (set_word (set_word (set_word (set_word h 0 0) 1 0) 2 0) 3 0) 4 0) 5 0
 
 -- a header that has this self and program alone
 unfoldable pub rooted : List ℕ → Value → Value → List ℕ

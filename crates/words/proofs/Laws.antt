@@ -8,7 +8,7 @@ use native.Mathlib.Omega.{arith}
 use native.Mathlib.Numerals.{add-one}
 use native.Mathlib.Decide.{ℕ_discrete}
 use lib.ListN.{length, length-set, get_or-eq_default}
-use lib.Seq.{get_or-set_same, get_or-set_other, set_out, ext_get_or}
+use lib.Seq.{get_or-set_same, get_or-set_other, set_out}
 use Rattle.words.specs.Words.{word, set_word, all_below}
 
 -- ---- Reading and writing
@@ -34,11 +34,6 @@ word_other m k j v r ne e = get_or-set_other m k j v 0 ne ∙ e
 pub word_same : (m : List ℕ) (k v : ℕ) → k < length m → word (set_word m k v) k ≡ v
 unfolding word set_word
 word_same m k v lt = get_or-set_same m k v 0 lt
-
--- words of one length that agree at every place are the same
-pub words_equal : (m m' : List ℕ) → length m' ≡ length m → ((k : ℕ) → word m' k ≡ word m k) → m' ≡ m
-unfolding word
-words_equal m m' e p = ext_get_or 0 m' m e (λ k lt. p k)
 
 -- ---- A loop over a test of every number below n: what has been tested so far
 
