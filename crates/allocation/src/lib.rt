@@ -1,10 +1,12 @@
 // The number that the next new frame and the next new made text take: the lowest that is not in use. How many are in use, the crate heap counts.
+#![tactic(auto)]
+
 ghost use Rattle.std.specs.Prelude.{◌≡◌};
 ghost use Rattle.allocation.specs.Allocation.{next_frame, next_text};
 ghost use Rattle.allocation.specs.Known.{FullBelow, TextsFull};
 
 // What is known of the numbers in use: at most so many frames and made texts are, every frame below `low` is, and every made text below `least`.
-#[derive(Drop)]
+#[derive(Clone, Copy)]
 pub struct Known {
     pub frames: u32,
     pub low: u32,

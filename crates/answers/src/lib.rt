@@ -1,4 +1,6 @@
 // The numbers of answers, for programs and for C.
+#![tactic(auto)]
+
 ghost use Rattle.std.specs.Prelude.{◌≡◌};
 ghost use Rattle.framed.specs.Answers.{load_number, stop_word, makers_number};
 ghost use Rattle.answers.specs.Numbers.{stopped_number, run_number, collect_number, look_number, write_number};

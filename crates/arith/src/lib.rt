@@ -1,4 +1,6 @@
 // Integers of 32 bits with exact results: the work is done in 64 bits, and what does not fit ends 33.
+#![tactic(auto)]
+
 ghost use Rattle.std.specs.Prelude.{◌≡◌, ◌+ℤ◌, ◌-ℤ◌, ◌*ℤ◌};
 ghost use Rattle.std.specs.Int.Signed.{lt_z};
 ghost use Rattle.framed.specs.Values.{same_integer};
@@ -6,7 +8,7 @@ ghost use Rattle.bounded.specs.Operations.{ranged};
 ghost use Rattle.arith.specs.Arith.{outcome, divided, nonzero};
 
 // What an integer operator gives: an integer, or the end 32 or 33.
-#[derive(Drop)]
+#[derive(Clone, Copy)]
 pub enum Arithmetic {
     Integer(i32),
     Ended(u32),

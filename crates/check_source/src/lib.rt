@@ -1,4 +1,6 @@
 // Which of the numbers 1 to 12 refuses a source. Nothing lent is written but the cache of its tokens, its names and the places of its strings, kept for those who write the program.
+#![tactic(auto)]
+
 ghost use Rattle.std.specs.Prelude.{◌≡◌, length};
 ghost use Rattle.framed.specs.Bytes.{class};
 ghost use Rattle.framed.specs.Tokens.{tokens};

@@ -1,4 +1,6 @@
 // Which end of 31 to 35 the rule of an assignment or of a show meets first, 0 where it meets none. It reads only, and looks at the ends in the rule's order.
+#![tactic(auto)]
+
 ghost use Rattle.std.specs.Prelude.{◌≡◌};
 ghost use Rattle.bounded.specs.Check.{check};
 ghost use Rattle.heap.specs.Words.{self_held, program_held as program_value};

@@ -1,4 +1,6 @@
 // A lent memory cleared: every word or byte becomes 0.
+#![tactic(auto)]
+
 ghost use Rattle.std.specs.Prelude.{◌≡◌, length};
 ghost use Rattle.emission.specs.Emit.{cleared};
 

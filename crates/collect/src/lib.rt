@@ -1,4 +1,6 @@
 // The public call collect. Heap words are lent to be written, the three other memories only to be read.
+#![tactic(auto)]
+
 ghost use Rattle.std.specs.Prelude.{◌≡◌};
 ghost use Rattle.collect.specs.Collect.{collecting, collect_call, CollectMeans};
 

@@ -1,4 +1,6 @@
 // The collector over heap words: mark what self and program reach, then take everything else out of use.
+#![tactic(auto)]
+
 ghost use Rattle.std.specs.Prelude.{◌≡◌, ◌≤◌, length};
 ghost use Rattle.heap.specs.Lists.{passing};
 ghost use Rattle.heap.specs.Closed.{Closed};

@@ -1,4 +1,6 @@
 // Commit: what an assignment or a show does to the memories, after reserve and check. It cannot fail: where check has met an end nothing or integer 0 is written.
+#![tactic(auto)]
+
 ghost use Rattle.std.specs.Prelude.{◌≡◌};
 ghost use Rattle.trees.specs.Trees.{path_list};
 ghost use Rattle.allocation.specs.Known.{Full};

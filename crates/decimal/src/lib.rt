@@ -1,4 +1,6 @@
 // The decimal digits of an integer, with the sign of a negative one, in a small array that the caller lends; and how many bytes they are.
+#![tactic(auto)]
+
 ghost use Rattle.std.specs.Prelude.{◌≡◌, suc, ◌≤◌, length};
 ghost use Rattle.framed.specs.Values.{digits_within, decimal};
 ghost use Rattle.decimal.specs.Decimal.{Holds};

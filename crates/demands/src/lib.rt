@@ -1,1 +1,3 @@
 // The three demands, proved of the machine: definitions and proofs only.
+#![tactic(auto)]
+

@@ -1,1 +1,3 @@
 // What was emitted is well-formed: statement in specs/, proofs in proofs/.
+#![tactic(auto)]
+

@@ -1,1 +1,3 @@
 // What emitted program words hold, entry by entry: definitions in specs/, proofs in proofs/.
+#![tactic(auto)]
+

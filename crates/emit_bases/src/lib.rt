@@ -1,4 +1,6 @@
 // Bases without code, written as expressions: a path.
+#![tactic(auto)]
+
 ghost use Rattle.std.specs.Prelude.{◌≡◌};
 ghost use Rattle.names.specs.Kept.{table_of};
 ghost use Rattle.emit_names.specs.Table.{Ready};

@@ -1,4 +1,6 @@
 // The leaves of the tree and where its parts begin and end, written into program words: what the cycle of `emit_tree` calls.
+#![tactic(auto)]
+
 ghost use Rattle.std.specs.Prelude.{◌≡◌};
 ghost use Rattle.names.specs.Kept.{table_of};
 ghost use Rattle.token_cache.specs.Cache.{Cached};
@@ -13,7 +15,7 @@ use grammar::{Found, Seen};
 use tables::{ExpressionEntry, InstructionEntry};
 
 // Where emission stands, and the token there.
-#[derive(Drop)]
+#[derive(Clone, Copy)]
 pub struct Stand {
     pub next: Next,
     pub seen: Seen,

@@ -1,4 +1,6 @@
 // The string literals of a source: their lengths into program words and their bytes into literal bytes.
+#![tactic(auto)]
+
 ghost use Rattle.std.specs.Prelude.{◌≡◌};
 ghost use Rattle.sweep.specs.Decides.{Short};
 ghost use Rattle.token_cache.specs.Cache.{Cached};

@@ -1,4 +1,6 @@
 // The names kept of a source: the number of each, and the name table written into program words.
+#![tactic(auto)]
+
 ghost use Rattle.std.specs.Prelude.{◌≡◌, length};
 ghost use Rattle.framed.specs.Symbols.{number_in};
 ghost use Rattle.source.specs.Positions.{part};

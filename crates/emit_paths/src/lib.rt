@@ -1,4 +1,6 @@
 // The path names of a path of the source, resolved, written into program words.
+#![tactic(auto)]
+
 ghost use Rattle.std.specs.Prelude.{◌≡◌};
 ghost use Rattle.framed.specs.Symbols.{number_in};
 ghost use Rattle.source.specs.Positions.{part};
@@ -30,7 +32,7 @@ pub fn name_number(
 }
 
 // Where names after dots end, and the number of the next path name after them.
-#[derive(Drop)]
+#[derive(Clone, Copy)]
 pub struct PathEnd {
     pub at: usize,
     pub paths: u32,
@@ -71,7 +73,7 @@ fn dotted(
 }
 
 // Where further `^` end, and how many levels of a place they leave.
-#[derive(Drop)]
+#[derive(Clone, Copy)]
 pub struct Levels {
     pub at: usize,
     pub levels: u32,

@@ -1,4 +1,6 @@
 // Program words and literal bytes of a source that load accepts.
+#![tactic(auto)]
+
 ghost use Rattle.std.specs.Prelude.{◌≡◌};
 ghost use Rattle.names.specs.Kept.{table_of, Kept, Leads};
 ghost use Rattle.strings.specs.Places.{Placed};

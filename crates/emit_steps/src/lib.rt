@@ -1,4 +1,6 @@
 // What the functions that emit a tree share: where emission stands, where a part is written, and steps over tokens.
+#![tactic(auto)]
+
 ghost use Rattle.std.specs.Prelude.{◌≡◌, ◌-◌};
 ghost use Rattle.emit_steps.specs.Steps.{one_more, go_to, take_expression, take_instruction, take_string, take_code, inner_slot, inner_code};
 ghost use Rattle.emit_steps.specs.Steps.{Pass, PassTwo, PassFrame};
@@ -8,7 +10,7 @@ use token::TokenRead;
 use words::wide;
 
 // Where emission stands: the position, and the numbers of the next expression, instruction, path name, string literal and code.
-#[derive(Drop)]
+#[derive(Clone, Copy)]
 pub struct Next {
     pub at: usize,
     pub expressions: u32,
@@ -19,7 +21,7 @@ pub struct Next {
 }
 
 // Where a part is written: in code or outside, and the names of the frame that holds it, from the program frame down.
-#[derive(Drop)]
+#[derive(Clone, Copy)]
 pub struct Place {
     pub in_code: bool,
     pub depth: u32,

@@ -1,4 +1,6 @@
 // The tree of a source written as program words: functions over a source and a position that call each other in a cycle, as the readers of `grammar` do.
+#![tactic(auto)]
+
 ghost use Rattle.names.specs.Kept.{table_of};
 ghost use Rattle.token_cache.specs.Cache.{Cached};
 ghost use Rattle.emit_names.specs.Table.{Ready};

@@ -1,4 +1,6 @@
 // The value of an expression, which makes its frames and texts: the last part of a step, after reserve and check.
+#![tactic(auto)]
+
 ghost use Rattle.allocation.specs.Known.{FullBelow, TextsFull, Full};
 ghost use Rattle.evaluation.specs.Evaluation.{Claims, CanEvaluate, Flat, Evaluates, CanFill, Fills, FillsBases};
 

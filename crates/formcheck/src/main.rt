@@ -1,6 +1,8 @@
 // Builds the memories of a small program that has run to its end, as the file `made` says, sets one word or byte of them at a time to each
 // of some values, and writes for each place of the file `places` which of these leave the memories well-formed: 1 yes, 0 no, - where the
 // value is no byte. A line of `made` is a memory (0 program words, 1 heap words, 2 literal bytes, 3 text bytes), a place and a value.
+#![tactic(auto)]
+
 ghost use Rattle.io.specs.Counts.{IsPrefixLen};
 
 const VALUES: [u32; 22] = [
@@ -8,7 +10,7 @@ const VALUES: [u32; 22] = [
 ];
 
 // A number, and the place after the byte behind it.
-#[derive(Drop)]
+#[derive(Clone, Copy)]
 struct Number {
     value: u32,
     next: usize,

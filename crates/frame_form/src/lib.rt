@@ -1,9 +1,11 @@
 // Whether what a value names is there, and whether the frames of heap words are well-formed (document 01: whole). No function here has a `requires`.
+#![tactic(auto)]
+
 ghost use Rattle.std.specs.Prelude.{◌≡◌};
 ghost use Rattle.frame_form.specs.Tests.{frame_in_use, text_in_use, value_formed, name_apart, name_new, slot_formed, slots_formed, frame_formed, frames_formed};
 
 // The numbers of the program words that a state keeps within: F, T, and how many names, literals, codes and instructions there are.
-#[derive(Drop)]
+#[derive(Clone, Copy)]
 pub struct Limits {
     pub frames: u32,
     pub texts: u32,

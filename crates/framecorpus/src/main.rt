@@ -1,4 +1,6 @@
 // For each source that the file `index` names: the name, and its printed run.
+#![tactic(auto)]
+
 use input::Input;
 
 fn print_run(source: &[u8]) {

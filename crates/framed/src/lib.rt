@@ -1,14 +1,16 @@
 // The public types of the frame machine. The definitions in specs/ speak of these; specs/Answers.antt gives each case of an answer document 01's number or word.
+#![tactic(auto)]
+
 
 // A text: a string literal of the program or a made text, each by its number.
-#[derive(Drop)]
+#[derive(Clone, Copy)]
 pub enum Text {
     Literal(u32),
     Made(u32),
 }
 
 // A value: an integer, a text, a code literal or a frame, each carrying its number.
-#[derive(Drop)]
+#[derive(Clone, Copy)]
 pub enum Value {
     Int(i32),
     Text(Text),
@@ -17,7 +19,7 @@ pub enum Value {
 }
 
 // What load answers: loaded, or why not.
-#[derive(Drop)]
+#[derive(Clone, Copy)]
 pub enum LoadAnswer {
     Loaded,
     MemoryLength,
@@ -35,7 +37,7 @@ pub enum LoadAnswer {
 }
 
 // Why a run stopped: done, with an end of a step, at its fuel, or for want of output space.
-#[derive(Drop)]
+#[derive(Clone, Copy)]
 pub enum Stop {
     Done,
     NoRule,
@@ -50,7 +52,7 @@ pub enum Stop {
 }
 
 // What a run reports: its stop, the steps made and the bytes written.
-#[derive(Drop)]
+#[derive(Clone, Copy)]
 pub struct RunReport {
     pub stop: Stop,
     pub steps: u32,
@@ -58,28 +60,28 @@ pub struct RunReport {
 }
 
 // What run answers: a report, or that the memories are not well-formed.
-#[derive(Drop)]
+#[derive(Clone, Copy)]
 pub enum RunAnswer {
     Stopped(RunReport),
     NotWellFormed,
 }
 
 // What a collection reports: the frames and the made texts reached.
-#[derive(Drop)]
+#[derive(Clone, Copy)]
 pub struct Totals {
     pub frames: u32,
     pub texts: u32,
 }
 
 // What collect answers: the totals, or that the memories are not well-formed.
-#[derive(Drop)]
+#[derive(Clone, Copy)]
 pub enum CollectAnswer {
     Collected(Totals),
     NotWellFormed,
 }
 
 // What write answers: the length of the text; or why not.
-#[derive(Drop)]
+#[derive(Clone, Copy)]
 pub enum WriteAnswer {
     Written(usize),
     NotWellFormed,
@@ -87,14 +89,14 @@ pub enum WriteAnswer {
 }
 
 // What makers answers: that the counts are written, or that the memories are not well-formed.
-#[derive(Drop)]
+#[derive(Clone, Copy)]
 pub enum MakersAnswer {
     Counted,
     NotWellFormed,
 }
 
 // What look answers: the kind, for an integer with the number, for a frame with the number of the instruction that made it (0: at loading); or why not.
-#[derive(Drop)]
+#[derive(Clone, Copy)]
 pub enum LookAnswer {
     Integer(i32),
     Text,

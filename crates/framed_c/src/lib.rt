@@ -1,5 +1,7 @@
 // The calls for C and other languages (include/framed.h): answers as numbers, further results through cells that the caller lends. Each function is one
 // call of the crate that it names; a refused call leaves the cells as they were.
+#![tactic(auto)]
+
 ghost use Rattle.std.specs.Prelude.{◌≡◌};
 ghost use Rattle.load.specs.Load.{memories};
 ghost use Rattle.framed_c.specs.Load.{LoadsInC};

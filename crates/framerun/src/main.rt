@@ -1,4 +1,6 @@
 // Reads a source from standard input, to its end or one byte past the longest, and prints its run. Where it cannot be read, nothing is printed.
+#![tactic(auto)]
+
 use input::Input;
 use libc::STDIN_FILENO;
 

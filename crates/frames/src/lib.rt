@@ -1,4 +1,6 @@
 // Number 8, token by token: whether some frame has a name twice or more than 16 slots. Each open bracket has a level: the number of its slots, and their names by number.
+#![tactic(auto)]
+
 ghost use Rattle.std.specs.Prelude.{◌≡◌};
 ghost use Rattle.framed.specs.Common.{member};
 ghost use Rattle.frames.specs.Levels.{level, Room, Adds, Opens, Watches};

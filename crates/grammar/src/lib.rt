@@ -1,4 +1,6 @@
 // The grammar: functions over a source and a position that call each other in a cycle; the unread source length falls.
+#![tactic(auto)]
+
 ghost use Rattle.framed.specs.Parse.{a_base, a_path, an_expression, slots, an_instruction, instructions, names};
 ghost use Rattle.token_cache.specs.Cache.{Cached};
 ghost use Rattle.grammar.specs.Runs.{Meets, MeetsAll, Reads, ReadsOn, Passes, Expects, KindAt, KindsOk, Sees, OneFrame};
@@ -7,7 +9,7 @@ ghost use Rattle.grammar.specs.Readers as R;
 use token::TokenRead;
 
 // What reading finds: the next position, or nothing.
-#[derive(Drop)]
+#[derive(Clone, Copy)]
 pub enum Found {
     Done(usize),
     Refused,
@@ -44,7 +46,7 @@ pub fn kind_at(c: &[u64; 16384], s: &[u8], at: usize) -> u32
 }
 
 // The token that stands there: its kind, 29 where there is none, the word of an integer, and where it begins and ends.
-#[derive(Drop)]
+#[derive(Clone, Copy)]
 pub struct Seen {
     pub kind: u32,
     pub word: u32,

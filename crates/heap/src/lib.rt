@@ -1,4 +1,6 @@
 // Heap words and text bytes, field by field (docs/LAYOUT.md). Every function is total: past the end a read gives 0 and a write does nothing.
+#![tactic(auto)]
+
 ghost use Rattle.std.specs.Prelude.{◌≡◌, length};
 ghost use Rattle.heap.specs.Words.{value_of, tag_of, number_of, self_held, program_held, position, end_mark};
 ghost use Rattle.heap.specs.Words.{frame_word, frame_used, slot_count_at, maker_at, slot_name_at, slot_tag_at, slot_number_at, slot_value_at};

@@ -1,10 +1,12 @@
 // Reads a file or standard input to its end, and tells a read that fails from the end.
+#![tactic(auto)]
+
 ghost use Rattle.std.specs.Prelude.{◌+◌, ◌≤◌, length};
 ghost use Rattle.io.specs.Counts.{IsPrefixLen};
 ghost use Rattle.input.specs.Input.{bytes_read};
 
 // What reading came to: so many bytes at the front of the buffer; or that a read failed.
-#[derive(Drop)]
+#[derive(Clone, Copy)]
 pub enum Input {
     Bytes(usize),
     Failed,

@@ -1,4 +1,6 @@
 // The integer that a payload word holds, and back.
+#![tactic(auto)]
+
 ghost use Rattle.std.specs.Prelude.{◌≡◌};
 ghost use Rattle.ints.specs.Ints.{int_of, word_of};
 

@@ -1,4 +1,6 @@
 // `#`: whether two values can be joined, and their bytes in a buffer. Each is joined as it is shown.
+#![tactic(auto)]
+
 ghost use Rattle.std.specs.Prelude.{◌≡◌, ◌+◌};
 ghost use Rattle.framed.specs.Values.{join_bytes};
 ghost use Rattle.heap.specs.Held.{texts_held};

@@ -1,4 +1,6 @@
 // What tokens are made of: runs of bytes, words, and the numbers that digits write.
+#![tactic(auto)]
+
 ghost use Rattle.std.specs.Prelude.{◌≡◌, ◌-◌};
 ghost use Rattle.framed.specs.Common.{same};
 ghost use Rattle.framed.specs.Bytes.{class};

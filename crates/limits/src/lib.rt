@@ -1,4 +1,6 @@
 // Numbers 1 to 3: lengths, F and T. Numbers 7, 9, 10 and 12: what stands outside code, and the counts against their limits. Each of these is given the sums over the source's tokens, and 9 the number of its names.
+#![tactic(auto)]
+
 ghost use Rattle.std.specs.Prelude.{◌≡◌};
 ghost use Rattle.sweep.specs.Decides.{Decides};
 ghost use Rattle.sums.specs.Totals.{Totalled};

@@ -1,4 +1,6 @@
 // The line of a show: what is shown of the value, then byte 10, written into the output buffer where it fits.
+#![tactic(auto)]
+
 ghost use Rattle.std.specs.Prelude.{[], ◌∷◌, ◌++◌, ◌≤◌, length};
 ghost use Rattle.framed.specs.Values.{decimal};
 ghost use Rattle.heap.specs.Held.{texts_held};

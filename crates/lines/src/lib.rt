@@ -1,4 +1,6 @@
 // The lines of a text, as of a list of file names.
+#![tactic(auto)]
+
 ghost use Rattle.lines.specs.Lines.{LineEnds};
 
 // Where the line that begins there ends: before byte 10, or at the end of the text.

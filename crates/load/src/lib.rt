@@ -1,4 +1,6 @@
 // The public call load. It checks first and writes nothing lent where it refuses; else all four memories are cleared and written.
+#![tactic(auto)]
+
 ghost use Rattle.std.specs.Prelude.{◌≡◌};
 ghost use Rattle.token_cache.specs.Cache.{Cached};
 ghost use Rattle.check_source.specs.Numbers.{KeptAll};

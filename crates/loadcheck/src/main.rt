@@ -1,4 +1,6 @@
 // For each source that the file `index` names: the name, and that it loads with its counts, or the number that refuses it. F and T are 256.
+#![tactic(auto)]
+
 ghost use Rattle.std.specs.Prelude.{length};
 ghost use Rattle.loadcheck.specs.Lines.{Begins, Ends};
 

@@ -1,4 +1,6 @@
 // The public call look and its companion. The four memories and the path text are only read.
+#![tactic(auto)]
+
 ghost use Rattle.std.specs.Prelude.{◌≡◌};
 ghost use Rattle.look_part.specs.Part.{PartIs};
 ghost use Rattle.look.specs.Look.{kind_answer, answer, look_call, LookMeans, look_part, LookTextMeans};

@@ -1,4 +1,6 @@
 // The number of a name among the names that program words hold.
+#![tactic(auto)]
+
 ghost use Rattle.std.specs.Prelude.{◌≡◌};
 ghost use Rattle.framed.specs.Common.{same};
 ghost use Rattle.framed.specs.Symbols.{number_in};

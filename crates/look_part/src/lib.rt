@@ -1,4 +1,6 @@
 // The bytes of a text as a part of the literal bytes or of the text bytes, with one lifetime over both.
+#![tactic(auto)]
+
 ghost use Rattle.std.specs.Prelude.{◌≡◌};
 ghost use Rattle.texts.specs.Texts.{Inside};
 ghost use Rattle.look_part.specs.Part.{PartOf, InMemory, PartIs, literal_part, made_part, text_part, part_found};
@@ -8,7 +10,7 @@ use look_path::Resolved;
 use words::wide;
 
 // A part of the literal bytes or of the text bytes: where it begins, and how many bytes it has.
-#[derive(Drop)]
+#[derive(Clone, Copy)]
 pub enum Part {
     Literal(usize, usize),
     Made(usize, usize),

@@ -1,4 +1,6 @@
 // A path text, read in tokens: `self` or one `^`, then any number of dot and name; and what it leads to.
+#![tactic(auto)]
+
 ghost use Rattle.std.specs.Prelude.{◌≡◌};
 ghost use Rattle.std.proofs.Math.Option.{some};
 ghost use Rattle.framed.specs.Bytes.{class};
@@ -14,7 +16,7 @@ use paths::Fetched;
 use token::TokenRead;
 
 // What a path text leads to: a value, or that Fetch is undefined; or that the text is not such a path.
-#[derive(Drop)]
+#[derive(Clone, Copy)]
 pub enum Resolved {
     Found(Value),
     Undefined,
@@ -22,7 +24,7 @@ pub enum Resolved {
 }
 
 // What stands at a position: nothing more, a dot and a name, or something else. Of the name: where it begins and ends.
-#[derive(Drop)]
+#[derive(Clone, Copy)]
 pub enum Dotted {
     End,
     Name(usize, usize),

@@ -1,11 +1,13 @@
 // Builds the memories of a small program that has run to its end, as the file `made` says, and looks along each line of the file `paths`. A line of `made` is a
 // memory (0 program words, 1 heap words, 2 literal bytes, 3 text bytes), a place and a value.
+#![tactic(auto)]
+
 ghost use Rattle.io.specs.Counts.{IsPrefixLen};
 
 use framed::LookAnswer;
 
 // A number, and the place after the byte behind it.
-#[derive(Drop)]
+#[derive(Clone, Copy)]
 struct Number {
     value: u32,
     next: usize,

@@ -1,5 +1,7 @@
 // The public call makers: how many of the frames that self and program reach each instruction made, and first how many were made at loading. The four
 // memories are only read.
+#![tactic(auto)]
+
 ghost use Rattle.std.specs.Prelude.{◌≡◌};
 ghost use Rattle.heap.specs.Words.{maker_at};
 ghost use Rattle.makers.specs.Makers.{count_for, CanCount, counts_below, MakersFit, counting, makers_call, MakersMeans};

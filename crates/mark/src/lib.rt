@@ -1,5 +1,7 @@
 // Marks what self and program reach. `marks[f]` is frame f's, `marks[256 + k]` made text k's. A frame is marked when it is put into the queue:
 // `order[..k]` is done, `order[k..tail]` waits, so that each frame's slots are looked at once.
+#![tactic(auto)]
+
 ghost use Rattle.std.specs.Prelude.{◌≡◌};
 ghost use Rattle.heap.specs.Closed.{Closed};
 ghost use Rattle.mark.specs.Mark.{work, Now, mark_text, visit_frame, visit_value, visit_all, mark_roots, mark_queue, mark_all};

@@ -1,4 +1,6 @@
 // Names of a source kept by where they begin and end, by first appearance: whether one is known, the number of each, and how many there are.
+#![tactic(auto)]
+
 ghost use Rattle.std.specs.Prelude.{◌≡◌, ◌+◌, ◌<◌};
 ghost use Rattle.framed.specs.Common.{any, same};
 ghost use Rattle.framed.specs.Symbols.{number_in};

@@ -1,5 +1,7 @@
 // f and t of an instruction: the frame literals and the `#` signs of its expression, those inside code left out. Counted up to 257: F and T are at most 256.
 // One walk counts both, in one number: f + 512 t.
+#![tactic(auto)]
+
 ghost use Rattle.std.specs.Prelude.{◌≡◌, ◌+◌, ◌%◌, ◌/◌};
 ghost use Rattle.framed.specs.Machine.{frame_literals, frame_literals_in, join_signs, join_signs_in, right_side};
 ghost use Rattle.trees.specs.Held.{expression_held, slots_held, instruction_held};

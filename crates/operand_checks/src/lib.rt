@@ -1,4 +1,6 @@
 // The end that an operand meets, and that Put meets along its path. It reads only; 0 where there is none.
+#![tactic(auto)]
+
 ghost use Rattle.std.specs.Prelude.{◌≡◌};
 ghost use Rattle.bounded.specs.Check.{end_of};
 ghost use Rattle.operands.specs.Operands.{operand_value};

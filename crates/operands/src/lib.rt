@@ -1,6 +1,8 @@
 // The value of an expression that is read as a base: integers, strings and codes as they are written, paths fetched anew at each use. It reads only.
 // This is where a step spends its time. So a value on its way is one number, its tag and 8 times its number, 5 where Fetch is undefined (an enum is given back through memory), and where
 // the memories have their lengths and a word is in its range, one test stands for many. The parts of `quick` have no other caller, so that compiled code stores no slice anew for them.
+#![tactic(auto)]
+
 ghost use Rattle.std.specs.Prelude.{◌≡◌, ◌+◌, ◌-◌, ◌*◌, ◌/◌, ◌%◌, ◌≤◌, length};
 ghost use Rattle.framed.specs.Machine.{defined};
 ghost use Rattle.heap.specs.Words.{value_of};

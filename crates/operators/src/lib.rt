@@ -1,4 +1,6 @@
 // An operator between two values, by its kind in the program words (7 to 15). It reads only: of `#` it says that the values can be joined.
+#![tactic(auto)]
+
 ghost use Rattle.std.specs.Prelude.{◌≡◌};
 ghost use Rattle.framed.specs.Equality.{equal_values};
 ghost use Rattle.bounded.specs.Check.{end_of};
@@ -12,7 +14,7 @@ use arith::Arithmetic;
 use framed::Value;
 
 // What an operator gives: an integer, the bytes of the two values joined, or an end.
-#[derive(Drop)]
+#[derive(Clone, Copy)]
 pub enum Operated {
     Integer(i32),
     Joined,

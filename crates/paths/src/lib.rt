@@ -1,4 +1,6 @@
 // Paths over the words: a slot by its name, and Fetch along the names of a path. Every function is total.
+#![tactic(auto)]
+
 ghost use Rattle.std.specs.Prelude.{◌≡◌, ◌+◌};
 ghost use Rattle.framed.specs.Fetch.{get, fetch};
 ghost use Rattle.tables.specs.Fields.{path_name};
@@ -8,14 +10,14 @@ ghost use Rattle.paths.specs.Paths.{slot_from, fetched, path_held};
 use framed::Value;
 
 // A slot of a frame: its number, or that there is none with the name.
-#[derive(Drop)]
+#[derive(Clone, Copy)]
 pub enum SlotFound {
     At(u32),
     Missing,
 }
 
 // What Fetch gives: a value, or that it is undefined.
-#[derive(Drop)]
+#[derive(Clone, Copy)]
 pub enum Fetched {
     Found(Value),
     Undefined,

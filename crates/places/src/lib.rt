@@ -1,4 +1,6 @@
 // Places in well-formed program words, for code that reads expressions, their slots, and codes.
+#![tactic(auto)]
+
 ghost use Rattle.std.specs.Prelude.{◌≡◌};
 ghost use Rattle.places.specs.Places.{first_place};
 

@@ -1,4 +1,6 @@
 // What the programs print: bytes, numbers and integers, to standard output.
+#![tactic(auto)]
+
 use libc::STDOUT_FILENO;
 
 pub fn put(text: &[u8]) {

@@ -1,4 +1,6 @@
 // The printed run of a source (document 01): what the program `framerun` prints for it.
+#![tactic(auto)]
+
 ghost use Rattle.std.specs.Prelude.{◌≡◌, take};
 ghost use Rattle.framed.specs.Framerun.{framerun};
 ghost use Rattle.printing.specs.Lines.{Appends};

@@ -1,4 +1,6 @@
 // The lines of a printed run, written into a lent buffer: what would lie past its end is dropped. Each function answers the position behind what it wrote.
+#![tactic(auto)]
+
 ghost use Rattle.std.specs.Prelude.{◌≡◌, ◌++◌, ◌+◌, ◌≤◌, length, take};
 ghost use Rattle.framed.specs.Answers.{stop_word};
 ghost use Rattle.framed.specs.Framerun.{number, stop_bytes};

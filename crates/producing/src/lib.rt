@@ -1,4 +1,6 @@
 // The values of expressions that make no frame: bases, `!` and the operators; `#` makes a text. Where check has met an end, the value is integer 0.
+#![tactic(auto)]
+
 ghost use Rattle.std.specs.Prelude.{◌≡◌, ◌≤◌, length};
 ghost use Rattle.allocation.specs.Known.{TextsFull};
 ghost use Rattle.bounded.specs.Bounded.{value_given};

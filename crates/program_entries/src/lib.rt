@@ -1,4 +1,6 @@
 // The tests of single entries of program words: forms, slots, links, with limits and names below. No function here has a `requires`.
+#![tactic(auto)]
+
 ghost use Rattle.std.specs.Prelude.{◌≡◌};
 ghost use Rattle.program_entries.specs.Tests.{path_ok, link_ok, base_ok, other_name, other_names, slot_ok, slots_ok, frame_ok};
 ghost use Rattle.program_entries.specs.Tests.{operate_ok, expression_entry_ok, expression_ok, expressions_ok, assign_ok, ifeq_ok, instruction_entry_ok, instruction_ok};

@@ -1,6 +1,8 @@
 // Document 02, A4: two codes are equal where their instruction lists agree: nested codes by the same rule, frame literals slot by slot, literals by their bytes.
 // An expression of well-formed words has one whole, and a code literal one expression. So a pair of expressions is come to from one pair of wholes only; and where both
 // wholes name an operand twice, the second pair is not compared again. Each pair is compared at most once, also in words that no source has.
+#![tactic(auto)]
+
 ghost use Rattle.std.specs.Prelude.{◌≡◌, ◌+◌};
 ghost use Rattle.framed.specs.Common.{same};
 ghost use Rattle.texts.specs.Texts.{Inside};

@@ -1,4 +1,6 @@
 // Decides whether program words and literal bytes are well-formed (document 01: whole), of any lengths.
+#![tactic(auto)]
+
 ghost use Rattle.std.specs.Prelude.{◌≡◌};
 ghost use Rattle.program_form.specs.WellFormed.{program_well_formed};
 

@@ -1,6 +1,8 @@
 // Arrays of marks: what is part of what in program words. Each is filled in one pass. No function here has a `requires`.
 // Cell 1 + a of an array is about entry a. o: the expression of which an expression is part; q: the instruction of which it is part;
 // c: the code in which an instruction stands; n: the expression that names a code; h: the code in which an expression is written.
+#![tactic(auto)]
+
 ghost use Rattle.std.specs.Prelude.{◌≡◌};
 ghost use Rattle.program_marks.specs.Marks.{mark_slots, mark_parts, mark_expressions, mark_operands, mark_instructions};
 ghost use Rattle.program_marks.specs.Marks.{mark_named, mark_names, mark_firsts, mark_next, mark_nexts, home_of, mark_home, mark_homes};

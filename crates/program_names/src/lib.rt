@@ -1,4 +1,6 @@
 // The tests of limits, names, literals and path names of program words and literal bytes. No function here has a `requires`.
+#![tactic(auto)]
+
 ghost use Rattle.std.specs.Prelude.{◌≡◌};
 ghost use Rattle.framed.specs.Bytes.{string_byte};
 ghost use Rattle.program_names.specs.Keys.{name_key, other_keys, is_new, name_ok_by};
@@ -67,7 +69,7 @@ fn new_name(p: &[u32], k: u32) -> bool
 }
 
 // What one reading of a name tells: whether its bytes are bytes, and its key.
-#[derive(Drop)]
+#[derive(Clone, Copy)]
 struct Spelled {
     plain: bool,
     key: u32,

@@ -2,6 +2,8 @@
 // No function here has a `requires`.
 // Cell 1 + a of an array is about entry a. o: the expression of which an expression is part; q: the instruction of which it is part;
 // c: the code in which an instruction stands; n: the expression that names a code; h: the code in which an expression is written.
+#![tactic(auto)]
+
 ghost use Rattle.std.specs.Prelude.{◌≡◌};
 ghost use Rattle.program_parts.specs.Tests.{part_ok, slot_marked, slots_marked, code_ok, both_parts_ok, parts_marked, expression_marked_as, expressions_marked};
 ghost use Rattle.program_parts.specs.Tests.{operand_ok, operands_marked, stands_ok, instruction_marked_as, instructions_marked, code_marked_as, codes_marked};

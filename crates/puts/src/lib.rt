@@ -1,4 +1,6 @@
 // Put over the words: where its walk ends, whether a slot can be set or added there, and the words with it. Every function is total.
+#![tactic(auto)]
+
 ghost use Rattle.std.specs.Prelude.{◌≡◌};
 ghost use Rattle.std.proofs.Math.ListN.{get_elem?};
 ghost use Rattle.bounded.specs.Check.{slot_end, target_end};
@@ -10,7 +12,7 @@ use framed::Value;
 use paths::{Fetched, SlotFound};
 
 // Where Put ends its walk: the frame number and the last name, or that no rule applies (31).
-#[derive(Drop)]
+#[derive(Clone, Copy)]
 pub enum PutTarget {
     At(u32, u32),
     NoRule,

@@ -1,6 +1,8 @@
 // The token reader: a struct that holds the lent source and a position, which moves on behind each token, and thin functions over covered ones with plain
 // parameters. The borrow checker covers no function over such a struct, so each is proved by hand. Callers use `token_from`: its parameters are plain, and it
 // gives the position back.
+#![tactic(auto)]
+
 ghost use Rattle.std.specs.Prelude.{◌≡◌};
 ghost use Rattle.framed.specs.Bytes.{class};
 ghost use Rattle.source.specs.Classified.{Classified};
@@ -9,14 +11,14 @@ ghost use Rattle.reader.specs.Position.{position_after, next_token, ReadFrom};
 
 use token::TokenRead;
 
-#[derive(Drop)]
+#[derive(Clone, Copy)]
 pub struct Reader<'a> {
     pub src: &'a [u8],
     pub at: usize,
 }
 
 // What was read at a position, and the position behind it.
-#[derive(Drop)]
+#[derive(Clone, Copy)]
 pub struct NextToken {
     pub token: TokenRead,
     pub at: usize,

@@ -1,4 +1,6 @@
 // Replays a script from standard input: makes its calls one after the other and prints each answer. README has the calls.
+#![tactic(auto)]
+
 use input::Input;
 use libc::STDIN_FILENO;
 

@@ -1,4 +1,6 @@
 // For each script that the file `index` names: the name, and what its replay prints.
+#![tactic(auto)]
+
 use input::Input;
 
 fn replay_file(name: &[u8]) {

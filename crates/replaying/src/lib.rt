@@ -1,4 +1,6 @@
 // The calls of a script: each is made on the same memories, and its answer printed.
+#![tactic(auto)]
+
 use framed::{CollectAnswer, LookAnswer, RunAnswer, RunReport, WriteAnswer};
 use input::Input;
 use script::{Call, Script};

@@ -1,5 +1,7 @@
 // Reserve (document 01: room): whether f more frames and t more made texts fit; where they do not, a collection, and then the same once more. What is known of the numbers
 // in use may say at once that they fit; else they are counted.
+#![tactic(auto)]
+
 ghost use Rattle.std.specs.Prelude.{◌≡◌};
 ghost use Rattle.heap.specs.Closed.{Closed};
 ghost use Rattle.allocation.specs.Known.{FullBelow, TextsFull, Full, Knows};
@@ -8,7 +10,7 @@ ghost use Rattle.reserving.specs.Reserving.{added, Reserves, lowest_frame_for, l
 use allocation::Known;
 
 // The end, 0 where there is room, and what is known then. Where there is room the f frames and t texts are counted in.
-#[derive(Drop)]
+#[derive(Clone, Copy)]
 pub struct Reserved {
     pub end: u32,
     pub known: Known,

@@ -1,4 +1,6 @@
 // The public call run. Heap words, text bytes and the output buffer are lent to be written, program words and literal bytes only to be read.
+#![tactic(auto)]
+
 ghost use Rattle.std.specs.Prelude.{◌≡◌};
 ghost use Rattle.wellformed.specs.WellFormed.{Formed};
 ghost use Rattle.run.specs.Run.{running, run_call, RunMeans};

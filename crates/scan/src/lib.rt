@@ -1,4 +1,6 @@
 // Nesting: how deep brackets are open, and number 5.
+#![tactic(auto)]
+
 ghost use Rattle.std.specs.Prelude.{◌≡◌, max};
 ghost use Rattle.scan.specs.Scan.{depth_after, last_refusal, NotHuge};
 

@@ -1,9 +1,11 @@
 // The script of `replay`, read token by token: which call comes, and its arguments.
+#![tactic(auto)]
+
 ghost use Rattle.std.specs.Prelude.{◌≡◌};
 ghost use Rattle.script.specs.Script.{is_open, called, after_name, string_for, after_string, space_for, write_space_for, integer_for, after_integer, after_token};
 
 // The argument of a call that comes next, with those before it. A string is given by where it begins and ends.
-#[derive(Drop)]
+#[derive(Clone, Copy)]
 pub enum Argument {
     LoadFile,
     LoadFrames(usize, usize),
@@ -15,7 +17,7 @@ pub enum Argument {
 }
 
 // A call with its arguments: a file, F and T; fuel and space; none; a path; space.
-#[derive(Drop)]
+#[derive(Clone, Copy)]
 pub enum Call {
     Load(usize, usize, u32, u32),
     Run(u32, u32),
@@ -26,7 +28,7 @@ pub enum Call {
 
 // What a script has come to: the name of a call comes next, or an argument; a call is complete; or a token, from where it begins to where it
 // ends, does not fit.
-#[derive(Drop)]
+#[derive(Clone, Copy)]
 pub enum Script {
     Name,
     Open(Argument),

@@ -1,4 +1,6 @@
 // What is shown of a value, without byte 10, as `#` joins it: how many bytes, and the bytes.
+#![tactic(auto)]
+
 ghost use Rattle.std.specs.Prelude.{◌≡◌, ◌^◌, ◌<◌, length};
 ghost use Rattle.framed.specs.Values.{decimal, shown};
 ghost use Rattle.heap.specs.Held.{texts_held};

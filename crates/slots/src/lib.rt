@@ -1,4 +1,6 @@
 // The slots of a frame in a source, and number 8: a frame has a name twice or more than 16 slots.
+#![tactic(auto)]
+
 ghost use Rattle.std.specs.Prelude.{◌≡◌, ◌&&◌};
 ghost use Rattle.framed.specs.Common.{any, same};
 ghost use Rattle.source.specs.Positions.{part};
@@ -89,7 +91,7 @@ fn add_slot(
 }
 
 // What is known of a frame: whether it has a name twice or more than 16 slots, and a position before which no frame begins in it.
-#[derive(Drop)]
+#[derive(Clone, Copy)]
 pub struct Checked {
     pub bad: bool,
     pub clear: usize,

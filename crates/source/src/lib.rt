@@ -1,4 +1,6 @@
 // The bytes of a source: the class of each, and the byte at a position.
+#![tactic(auto)]
+
 ghost use Rattle.std.specs.Prelude.{◌≡◌};
 ghost use Rattle.framed.specs.Bytes.{class};
 ghost use Rattle.source.specs.Positions.{byte};

@@ -1,4 +1,6 @@
 // Spaces and comments of a source.
+#![tactic(auto)]
+
 ghost use Rattle.framed.specs.Bytes.{class};
 ghost use Rattle.source.specs.Classified.{Classified};
 ghost use Rattle.spaces.specs.Spaces.{CommentEnds, CanSkip, SkipsOne, Skips};

@@ -1,4 +1,6 @@
 // Bytes written into a lent buffer from a position on. What would lie past the buffer's end is dropped.
+#![tactic(auto)]
+
 ghost use Rattle.std.specs.Prelude.{◌≡◌, ◌+◌, ◌≤◌, length};
 ghost use Rattle.splice.specs.Splice.{splice};
 

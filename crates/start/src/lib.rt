@@ -1,4 +1,6 @@
 // Number 11: the code in slot start of the frame in slot Main.
+#![tactic(auto)]
+
 ghost use Rattle.std.specs.Prelude.{◌≡◌, ◌&&◌};
 ghost use Rattle.framed.specs.Common.{same};
 ghost use Rattle.source.specs.Positions.{part};

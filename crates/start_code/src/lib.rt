@@ -1,4 +1,6 @@
 // The number of the code in Main.start, read from program words.
+#![tactic(auto)]
+
 ghost use Rattle.std.specs.Prelude.{◌≡◌};
 ghost use Rattle.start_code.specs.StartCode.{find_slot, frame_slots, code_number, start_code};
 

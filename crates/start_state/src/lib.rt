@@ -1,4 +1,6 @@
 // The start state in heap words: the written frames, the first self and the position at Main.start.
+#![tactic(auto)]
+
 ghost use Rattle.std.specs.Prelude.{◌≡◌};
 ghost use Rattle.start_state.specs.Start.{new_self, rooted, CanStart, Makes, Starts};
 

@@ -1,5 +1,7 @@
 // Whether heap words and text bytes are well-formed (document 01: whole), the half of that paragraph which is about them. No function here has a `requires`.
 // Values and frames are tested in `frame_form`, made texts in `text_form`.
+#![tactic(auto)]
+
 ghost use Rattle.std.specs.Prelude.{◌≡◌};
 ghost use Rattle.state_form.specs.Tests.{roots_formed, counts_formed, position_formed, end_formed, parts_formed, state_well_formed};
 

@@ -1,4 +1,6 @@
 // One step of the machine over the words: in one go, or reserve and then its parts. The parts are the crates below; here they follow one another.
+#![tactic(auto)]
+
 ghost use Rattle.std.specs.Prelude.{◌≡◌, true};
 ghost use Rattle.step_parts.specs.Step.{RoomFor, CanStep, CanAttempt, Attempts, AttemptsQuietly};
 ghost use Rattle.allocation.specs.Known.{Knows};

@@ -1,5 +1,7 @@
 // `:=` of an expression that makes no frame and no text, in one go: each operand is read once and the path is walked once, and an end that is met leaves the words as they are.
 // What became of it is a number: 0 it is made, 31 to 35 the end that it meets, 255 it is left, as it makes something.
+#![tactic(auto)]
+
 ghost use Rattle.std.specs.Prelude.{◌≡◌, ◌<◌};
 ghost use Rattle.framed.specs.Machine.{defined};
 ghost use Rattle.tables.specs.Fields.{instruction_a, instruction_b, instruction_c};
@@ -18,7 +20,7 @@ use puts::PutTarget;
 use tables::ExpressionEntry;
 
 // The value of an expression that makes nothing, the end that it meets, or that it makes something.
-#[derive(Drop)]
+#[derive(Clone, Copy)]
 pub enum Given {
     Value(Value),
     Ended(u32),

@@ -1,1 +1,3 @@
 // What the words after one step hold, from the definitions alone: laws only.
+#![tactic(auto)]
+

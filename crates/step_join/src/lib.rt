@@ -1,5 +1,7 @@
 // `:=` of a join after reserve, in one go: everything is read before anything is written, and an end that is met leaves the words and the bytes as they are.
 // What became of it is a number: 0 it is made, else the end that it meets.
+#![tactic(auto)]
+
 ghost use Rattle.std.specs.Prelude.{◌≡◌};
 ghost use Rattle.allocation.specs.Known.{TextsFull};
 ghost use Rattle.step_join.specs.Join.{joins_entry, CanAssignJoin, JoinsValues, CanPutJoin, JoinsOnce};

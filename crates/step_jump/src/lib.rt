@@ -1,5 +1,7 @@
 // A jump and an `ifeq`, in one go: each operand is read once, and an end that is met leaves the words as they are.
 // What became of it is a number: 0 it is made, 31 the end that it meets.
+#![tactic(auto)]
+
 ghost use Rattle.tables.specs.declared.InstructionEntry.{InstructionEntry};
 ghost use Rattle.commit.specs.Commit.{CanJump};
 ghost use Rattle.commit.specs.Direct.{CanDoEntry, Does};

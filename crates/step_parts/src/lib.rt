@@ -1,4 +1,6 @@
 // The parts of one step over the words: reserve, check, the line of a show, commit. The step itself is the crate `step`.
+#![tactic(auto)]
+
 ghost use Rattle.step_parts.specs.Step.{CanReserve, RoomFor, CanShow, Shows, CanAttempt, Attempts};
 ghost use Rattle.step_parts.specs.Step.{frames_for, texts_for};
 ghost use Rattle.allocation.specs.Known.{Knows};
@@ -10,14 +12,14 @@ use reserving::Reserved;
 use tables::InstructionEntry;
 
 // What became of the line of an instruction: its size, where there was space for it.
-#[derive(Drop)]
+#[derive(Clone, Copy)]
 pub enum Shown {
     Written(usize),
     TooLong,
 }
 
 // What became of a step: an end, no space for its line, or made, with the size of its line.
-#[derive(Drop)]
+#[derive(Clone, Copy)]
 pub enum Outcome {
     Ended(u32),
     NoSpace,
@@ -25,7 +27,7 @@ pub enum Outcome {
 }
 
 // What became of a step, and what is known of the numbers in use after it.
-#[derive(Drop)]
+#[derive(Clone, Copy)]
 pub struct Tried {
     pub outcome: Outcome,
     pub known: Known,

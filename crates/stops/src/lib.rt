@@ -1,4 +1,6 @@
 // The number that a run stops with, from the end that is marked and from the heap words.
+#![tactic(auto)]
+
 ghost use Rattle.std.specs.Prelude.{◌≡◌};
 ghost use Rattle.stops.specs.Stops.{stop_of, stop_here};
 

@@ -1,4 +1,6 @@
 // Where the strings of a source were read, in order, and how many there are.
+#![tactic(auto)]
+
 ghost use Rattle.strings.specs.Places.{Counted, Stored};
 
 use words::wide;

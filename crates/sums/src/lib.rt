@@ -4,12 +4,14 @@
 //   5 `!`, operators, `self` and `^` outside code
 //   6 names in paths, and at each first `^` the levels from the program frame down to the frame that holds the code
 //   7 further `^` that name a frame, 8 further `^` above the program frame
+#![tactic(auto)]
+
 ghost use Rattle.std.specs.Prelude.{◌≡◌};
 ghost use Rattle.sums.specs.Weights.{one_if, closed};
 ghost use Rattle.sums.specs.Totals.{Room, UpRoom, nothing, sums_of, Climbs, Counts};
 
 // The nine sums, by what is summed.
-#[derive(Drop)]
+#[derive(Clone, Copy)]
 pub struct Totals {
     pub expressions: usize,
     pub instructions: usize,
@@ -23,7 +25,7 @@ pub struct Totals {
 }
 
 // The sums and what they depend on: open `{`, open `[` outside code, further `^` of the path.
-#[derive(Drop)]
+#[derive(Clone, Copy)]
 pub struct Tally {
     pub expressions: usize,
     pub instructions: usize,

@@ -1,4 +1,6 @@
 // One pass over a source: its tokens are kept where the cache has room, with a note at each name, its names and the places of its strings too; its sums are taken and its frames watched. Numbers 4 and 5.
+#![tactic(auto)]
+
 ghost use Rattle.std.specs.Prelude.{◌≡◌, length};
 ghost use Rattle.sweep.specs.Decides.{Short};
 ghost use Rattle.sums.specs.Totals.{sums_of};
@@ -10,7 +12,7 @@ use sums::{Tally, Totals};
 use token::TokenRead;
 
 // What is found: the number that refuses the source as tokens, or 0; how many names and strings are kept; whether no frame has a name twice or more than 16 slots, as far as that was seen (true is certain, false decides nothing); the sums.
-#[derive(Drop)]
+#[derive(Clone, Copy)]
 pub struct Findings {
     pub refusal: u32,
     pub names: u32,

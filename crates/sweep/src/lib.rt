@@ -1,4 +1,6 @@
 // What loops over the tokens of a source share.
+#![tactic(auto)]
+
 ghost use Rattle.std.specs.Prelude.{◌≡◌, ◌-◌};
 
 pub fn one_less(n: usize) -> usize

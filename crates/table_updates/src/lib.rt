@@ -1,4 +1,6 @@
 // Program words and literal bytes: each field of docs/LAYOUT.md, written. Past the memory's end nothing is written.
+#![tactic(auto)]
+
 ghost use Rattle.std.specs.Prelude.{◌≡◌};
 ghost use Rattle.table_updates.specs.Encode.{expression_kind_of, expression_a_of, expression_b_of, instruction_kind_of, instruction_a_of, instruction_b_of, instruction_c_of};
 ghost use Rattle.table_updates.specs.Updates.{set_frame_limit, set_text_limit, set_names, set_literals, set_expressions, set_instructions, set_codes, set_path_names};

@@ -1,5 +1,7 @@
 // Program words and literal bytes: each field of docs/LAYOUT.md, read from memories of any length (0 past their end).
 // A place is 0 for none, or 1 + a number.
+#![tactic(auto)]
+
 ghost use Rattle.std.specs.Prelude.{◌≡◌, ◌-◌};
 ghost use Rattle.tables.specs.Entries.{expression_of, expression_at, instruction_of, instruction_at};
 ghost use Rattle.tables.specs.Fields.{frame_limit, text_limit, names, literals, expressions, instructions, codes, path_names};
@@ -232,7 +234,7 @@ pub fn instruction_after(p: &[u32], i: u32) -> u32
 
 // an expression: integer word, literal, path (first name and how many) from self or from the program, code, frame (link to its first slot), `!`,
 // operator (its kind, 7 to 15) with two operands; or no form
-#[derive(Drop)]
+#[derive(Clone, Copy)]
 pub enum ExpressionEntry {
     Integer(u32),
     Literal(u32),
@@ -246,7 +248,7 @@ pub enum ExpressionEntry {
 }
 
 // an instruction: path `:=` expression from self or from the program, `show`, `jump`, `ifeq`; or no form
-#[derive(Drop)]
+#[derive(Clone, Copy)]
 pub enum InstructionEntry {
     AssignSelf(u32, u32, u32),
     AssignProgram(u32, u32, u32),

@@ -1,6 +1,8 @@
 // Writes and compares programs that no source has, so that the gate shows them answered at once: a text of more than 2^60 bytes, the same program with few levels, frames in
 // frames as deep as there are expressions, and equal codes that hold each code inside them twice or three times, 60 levels deep: one that compared a pair again would never
 // answer. Before these stand fewer levels and a bound on the time. Each is made from a loaded program, a word at a time.
+#![tactic(auto)]
+
 use framed::{RunAnswer, WriteAnswer};
 
 // The words of expression x, or of instruction i, from a place on: kind, first and second number.

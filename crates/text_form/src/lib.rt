@@ -1,4 +1,6 @@
 // Whether the made texts of heap words and text bytes are well-formed (document 01: whole). No function here has a `requires`.
+#![tactic(auto)]
+
 ghost use Rattle.std.specs.Prelude.{◌≡◌};
 ghost use Rattle.text_form.specs.Tests.{text_byte_formed, text_bytes_formed, text_formed, texts_formed};
 

@@ -1,4 +1,6 @@
 // The bytes of a text as a part of the literal bytes or of the text bytes; equality of texts, and truth.
+#![tactic(auto)]
+
 ghost use Rattle.std.specs.Prelude.{◌≡◌, [], get_or};
 ghost use Rattle.framed.specs.Common.{same};
 ghost use Rattle.framed.specs.Values.{text_bytes, truth};

@@ -1,4 +1,6 @@
 // Tokens of a source: the token at a position, and its bytes.
+#![tactic(auto)]
+
 ghost use Rattle.std.specs.Prelude.{◌≡◌, ◌+◌, ◌-◌};
 ghost use Rattle.framed.specs.Bytes.{class};
 ghost use Rattle.framed.specs.Tokens.{read};
@@ -9,7 +11,7 @@ ghost use Rattle.token.specs.Beginning.{CanRead, CanRun, Begins, name_read, natu
 
 // What stands at a position: nothing more, bytes that form no token, or a token with its kind, where it begins and ends, and the word
 // of an integer, else 0.
-#[derive(Drop)]
+#[derive(Clone, Copy)]
 pub enum TokenRead {
     End,
     NoToken,

@@ -1,5 +1,7 @@
 // Tokens of a source that were read, and its end, kept by the position at which they were read, so that later passes need not read them anew; what no entry
 // keeps is read anew. A name is kept with a note.
+#![tactic(auto)]
+
 ghost use Rattle.std.specs.Prelude.{◌≡◌, ◌/◌, ◌%◌, eqb};
 ghost use Rattle.framed.specs.Common.{if◌then◌else◌};
 ghost use Rattle.framed.specs.Bytes.{class};

@@ -1,5 +1,7 @@
 // Writes the tokens of each source that its arguments name: kind, begin, end, bytes and, of an integer, the number; then the number
 // that refuses the source as tokens, or 0.
+#![tactic(auto)]
+
 use token::TokenRead;
 
 fn write_token(s: &[u8], kind: u32, begin: usize, end: usize, word: u32) {

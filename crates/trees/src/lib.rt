@@ -1,1 +1,3 @@
 // What program words hold as trees: definitions and laws only.
+#![tactic(auto)]
+

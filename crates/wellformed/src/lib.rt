@@ -1,4 +1,6 @@
 // Whether the four memories are well-formed (document 01: whole). For slices of any lengths, with no `requires`.
+#![tactic(auto)]
+
 ghost use Rattle.std.specs.Prelude.{◌≡◌};
 ghost use Rattle.wellformed.specs.WellFormed.{limits, well_formed};
 

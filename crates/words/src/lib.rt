@@ -1,4 +1,6 @@
 // Words and bytes of a lent memory, read and written at any number: past the end a read gives 0 and a write does nothing.
+#![tactic(auto)]
+
 ghost use Rattle.std.specs.Prelude.{◌≡◌};
 ghost use Rattle.words.specs.Words.{word, set_word};
 

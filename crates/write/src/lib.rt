@@ -1,4 +1,6 @@
 // The public call write: the program as Framed text, in a lent buffer. The four memories are only read.
+#![tactic(auto)]
+
 ghost use Rattle.std.specs.Prelude.{◌≡◌};
 ghost use Rattle.framed.specs.Writer.{text};
 ghost use Rattle.trees.specs.Held.{program_held};

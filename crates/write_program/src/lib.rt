@@ -1,4 +1,6 @@
 // The text of the program that program words and literal bytes hold. Where the text is past its limit, nothing more is walked.
+#![tactic(auto)]
+
 ghost use Rattle.std.specs.Prelude.{◌<◌, take};
 ghost use Rattle.framed.specs.Paths.{in_code, outside_code};
 ghost use Rattle.framed.specs.Writer.{text};

@@ -1,5 +1,7 @@
 // Words of a program's text, appended to a lent buffer. What would lie past the buffer's end is dropped, and no more than `limit` bytes are counted: a longer text
 // has the position limit + 1. Each function answers the position behind what it appended.
+#![tactic(auto)]
+
 ghost use Rattle.std.specs.Prelude.{◌≡◌, [], min, ◌+◌, ◌^◌, ◌≤◌, ◌<◌, get_or};
 ghost use Rattle.framed.specs.Writer.{common_prefix};
 ghost use Rattle.trees.specs.Trees.{path_list};
