@@ -51,13 +51,13 @@ module _ {A : Type 0} where
   place_in (y ∷ xs) (suc i) e = later (place_in xs i e)
 
   -- what stands at a place, or else d
-  pub get_or : (xs : List A) (n : ℕ) (d : A) → get_or xs n d ≡ or_else d (get_elem? xs n)
-  get_or [] n d = refl
-  get_or (x ∷ xs) zero d = refl
-  get_or (x ∷ xs) (suc n) d = get_or xs n d
+  pub get_or_lem : (xs : List A) (n : ℕ) (d : A) → get_or xs n d ≡ or_else d (get_elem? xs n)
+  get_or_lem [] n d = refl
+  get_or_lem (x ∷ xs) zero d = refl
+  get_or_lem (x ∷ xs) (suc n) d = get_or_lem xs n d
 
   pub get_default : (xs : List A) (n : ℕ) (d x : A) → get_elem? xs n ≡ some x → get_or xs n d ≡ x
-  get_default xs n d x e = get_or xs n d ∙ ap (or_else d) e
+  get_default xs n d x e = get_or_lem xs n d ∙ ap (or_else d) e
 
   pub get_seam : (xs : List A) (y : A) (ys : List A) → get_elem? (xs ++ y ∷ ys) (length xs) ≡ some y
   get_seam [] y ys = refl

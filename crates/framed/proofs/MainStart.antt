@@ -66,7 +66,9 @@ mutual
 -- ---- The names of slots are symbols
 
 slot_symbol : {ts rest : List Symbol} {ss : Slots Written} {n : ℕ} {e : Expression Written} → Slots⊢ ts ss rest → HasSlot n e ss → Symbol.name n ∈ ts
+slot_symbol Slots⊢.no_slots h = elim h [ ]
 slot_symbol (Slots⊢.last_slot d) HasSlot.here = here
+slot_symbol (Slots⊢.last_slot d) (HasSlot.later h) = elim h [ ]
 slot_symbol (Slots⊢.more_slots d ds) HasSlot.here = here
 slot_symbol (Slots⊢.more_slots d ds) (HasSlot.later h) = later (later (expression_rest d (later (slot_symbol ds h))))
 
@@ -80,7 +82,9 @@ expression_symbol (Expression⊢.frame d) h = frame_symbol d h
 
 slot_inner : {ts rest : List Symbol} {ss us : Slots Written} {m n : ℕ} {e : Expression Written} →
     Slots⊢ ts ss rest → HasSlot m (Expression.frame us) ss → HasSlot n e us → Symbol.name n ∈ ts
+slot_inner Slots⊢.no_slots h k = elim h [ ]
 slot_inner (Slots⊢.last_slot d) HasSlot.here k = later (later (expression_symbol d k))
+slot_inner (Slots⊢.last_slot d) (HasSlot.later h) k = elim h [ ]
 slot_inner (Slots⊢.more_slots d ds) HasSlot.here k = later (later (expression_symbol d k))
 slot_inner (Slots⊢.more_slots d ds) (HasSlot.later h) k = later (later (expression_rest d (later (slot_inner ds h k))))
 

@@ -49,10 +49,14 @@ number_at (u ∷ us) t (suc i) {w} e =
 same_in : (w : List ℕ) (table : List (List ℕ)) → any (same w) table ≡ true → w ∈ table
 same_in w table e = let r = any_finds (same w) table e in subst (λ (v : List ℕ). v ∈ table) (sym (same_equal w r.0 r.2)) r.1
 
+-- the table with a name that comes next
+abbrev grown : List (List ℕ) → List ℕ → List (List ℕ)
+grown table v = if any (same v) table then table else table ++ (v ∷ [])
+
 kept : (table : List (List ℕ)) (ts : List Token) {w : List ℕ} → w ∈ table → w ∈ names_after table ts
 unfolding names_after
 kept table [] m = m
-kept table (Token.name v ∷ ts) {w} m = kept _ ts (go (any (same v) table))
+kept table (Token.name v ∷ ts) {w} m = kept (grown table v) ts (go (any (same v) table))
   where
     go : (t : Bool) → w ∈ (if t then table else table ++ (v ∷ []))
     go true = m
@@ -64,8 +68,9 @@ kept table (Token.fixed f ∷ ts) m = kept table ts m
 
 named : (table : List (List ℕ)) (ts : List Token) {w : List ℕ} → Token.name w ∈ ts → w ∈ names_after table ts
 unfolding names_after
-named table (Token.name v ∷ ts) (later m) = named _ ts m
-named table (Token.name v ∷ ts) here = kept _ ts (go (any (same v) table) refl)
+named table [] m = none m
+named table (Token.name v ∷ ts) (later m) = named (grown table v) ts m
+named table (Token.name v ∷ ts) here = kept (grown table v) ts (go (any (same v) table) refl)
   where
     go : (t : Bool) → any (same v) table ≡ t → v ∈ (if t then table else table ++ (v ∷ []))
     go true p = same_in v table p
@@ -82,7 +87,7 @@ the_name (later n) = none n
 taken : (table : List (List ℕ)) (ts : List Token) {w : List ℕ} → w ∈ names_after table ts → (w ∈ table) ⊎ (Token.name w ∈ ts)
 unfolding names_after
 taken table [] m = inl m
-taken table (Token.name v ∷ ts) {w} m = ⊎_elim (λ n. go (any (same v) table) n) (λ n. inr (later n)) (taken _ ts m)
+taken table (Token.name v ∷ ts) {w} m = ⊎_elim (λ n. go (any (same v) table) n) (λ n. inr (later n)) (taken (grown table v) ts m)
   where
     go : (t : Bool) → w ∈ (if t then table else table ++ (v ∷ [])) → (w ∈ table) ⊎ (Token.name w ∈ (Token.name v ∷ ts))
     go true n = inl n
@@ -99,13 +104,14 @@ module _ {A : Type 0} where
 
   twice_last : (xs : List A) {x : A} → Twice (xs ++ (x ∷ [])) → Twice xs ⊎ (x ∈ xs)
   twice_last [] (Twice.first m) = none m
+  twice_last [] (Twice.rest d) = elim d [ ]
   twice_last (y ∷ xs) (Twice.first m) = cases xs (λ n. inl (Twice.first n)) (λ n. inr (the_last n)) m
   twice_last (y ∷ xs) (Twice.rest d) = ⊎_elim (λ h. inl (Twice.rest h)) (λ h. inr (later h)) (twice_last xs d)
 
 once : (table : List (List ℕ)) (ts : List Token) → ¬ Twice table → ¬ Twice (names_after table ts)
 unfolding names_after
 once table [] t = t
-once table (Token.name w ∷ ts) t = once _ ts (go (any (same w) table) refl)
+once table (Token.name w ∷ ts) t = once (grown table w) ts (go (any (same w) table) refl)
   where
     go : (b : Bool) → any (same w) table ≡ b → ¬ Twice (if b then table else table ++ (w ∷ []))
     go true p = t

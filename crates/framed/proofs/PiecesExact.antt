@@ -65,6 +65,7 @@ mutual
   unfolding base_pieces
 
   base_to : (place : Place) (b : Base Written) {x : Piece} → InBase place b x → x ∈ base_pieces place b
+  base_to place (Base.integer z) d = elim d [ ]
   base_to place (Base.string k) string = here
   base_to place (Base.path p) path = here
   base_to place (Base.code k is) code = here
@@ -81,6 +82,7 @@ mutual
   expression_to place inner (Expression.frame ss) (in_frame d) = later (slots_to inner ss d)
 
   slots_to : (place : Place) (ss : Slots Written) {x : Piece} → InSlots place ss x → x ∈ slots_pieces place ss
+  slots_to place Slots.no_slots d = elim d [ ]
   slots_to place (Slots.slot n e ss) (in_slot d) = in_front _ (right_side_to (λ c. expression_to place (within_slot n place) e c) d)
   slots_to place (Slots.slot n e ss) (later_slot d) = behind (one ∷ expression_pieces place (within_slot n place) e) (slots_to place ss d)
 
@@ -95,6 +97,7 @@ mutual
   instruction_to place (Instruction.ifeq a b c) (in_ifeq₃ d) = behind (one ∷ base_pieces place a ++ (one ∷ base_pieces place b)) (operand_to (λ m. base_to place c m) d)
 
   code_to : (place : Place) (is : Code Written) {x : Piece} → InCode place is x → x ∈ code_pieces place is
+  code_to place Code.finished d = elim d [ ]
   code_to place (i then is) instruction = here
   code_to place (i then is) (in_instruction d) = later (in_front _ (instruction_to place i d))
   code_to place (i then is) (later_instruction d) = later (behind (instruction_pieces place i) (code_to place is d))
@@ -149,6 +152,7 @@ mutual
   unfolding base_pieces base_to base_from
 
   base_from_to : (place : Place) (b : Base Written) {x : Piece} (d : InBase place b x) → base_from place b (base_to place b d) ≡ d
+  base_from_to place (Base.integer z) d = elim d [ ]
   base_from_to place (Base.string k) string = refl
   base_from_to place (Base.path p) path = refl
   base_from_to place (Base.code k is) code = refl
@@ -167,6 +171,7 @@ mutual
   expression_from_to place inner (Expression.frame ss) (in_frame d) = ap in_frame (slots_from_to inner ss d)
 
   slots_from_to : (place : Place) (ss : Slots Written) {x : Piece} (d : InSlots place ss x) → slots_from place ss (slots_to place ss d) ≡ d
+  slots_from_to place Slots.no_slots d = elim d [ ]
   slots_from_to place (Slots.slot n e ss) (in_slot d) = cases_front _ _ _ _ ∙ ap in_slot (right_side_from_to _ _ (λ d. expression_from_to place (within_slot n place) e d) d)
   slots_from_to place (Slots.slot n e ss) (later_slot d) =
       cases_behind (one ∷ expression_pieces place (within_slot n place) e) _ _ _ ∙ ap later_slot (slots_from_to place ss d)
@@ -187,6 +192,7 @@ mutual
       cases_behind (one ∷ base_pieces place a ++ (one ∷ base_pieces place b)) _ _ _ ∙ ap in_ifeq₃ (operand_from_to _ _ (λ d. base_from_to place c d) d)
 
   code_from_to : (place : Place) (is : Code Written) {x : Piece} (d : InCode place is x) → code_from place is (code_to place is d) ≡ d
+  code_from_to place Code.finished d = elim d [ ]
   code_from_to place (i then is) instruction = refl
   code_from_to place (i then is) (in_instruction d) = cases_front _ _ _ _ ∙ ap in_instruction (instruction_from_to place i d)
   code_from_to place (i then is) (later_instruction d) = cases_behind (instruction_pieces place i) _ _ _ ∙ ap later_instruction (code_from_to place is d)

@@ -51,7 +51,7 @@ grows_on {h} a b = record {
   frames_are = b.frames_are ∙ ap (λ (l : List Frame). l ++ b.more) a.frames_are ∙ append_assoc h.frames a.more b.more;
 }
 
-operation_grows : {K : Constants} {h h' : Heap} {o : Operator} {v w u : Value} → Operates K h o v w u h' → Grows h h'
+operation_grows : {K : Constants} {h : Heap} {o : Operator} {v w u : Value} {h' : Heap} → Operates K h o v w u h' → Grows h h'
 operation_grows {h} (o_plus t) = stays h
 operation_grows {h} (o_minus t) = stays h
 operation_grows {h} (o_times t) = stays h
