@@ -15,7 +15,7 @@ use Rattle.framed.specs.Machine.{State}
 use Rattle.framed.specs.Alike.{InReach, Renaming, renamed, renamed_slot, renamed_frame, Alike}
 use Rattle.framed.specs.Calls.{maker_in, made_by}
 use Rattle.framed.specs.Theorems.{Counts, MakersAlike}
-use Rattle.framed.proofs.Lists.{or_else, get_or}
+use Rattle.framed.proofs.Lists.{or_else, get_or_lem}
 use Rattle.framed.proofs.MakersCounted.{makers_counted}
 use Rattle.bounded.proofs.Lists.{member_in, in_member, once_no_dup, pigeon}
 
@@ -25,7 +25,7 @@ frame_or = or_else (new_frame 0 [])
 
 maker_there : (frames : List Frame) (n : ℕ) → maker_in frames n ≡ (frame_or (get_elem? frames n)).maker
 unfolding maker_in
-maker_there frames n = ap (λ (f : Frame). f.maker) (get_or frames n (new_frame 0 []))
+maker_there frames n = ap (λ (f : Frame). f.maker) (get_or_lem frames n (new_frame 0 []))
 
 renamed_maker : (ρ : Renaming) (o : Option Frame) → (frame_or (renamed_frame ρ o)).maker ≡ (frame_or o).maker
 unfolding renamed_frame
@@ -59,8 +59,8 @@ module _ (s t : State) (a : Alike s t) where
   values_renamed : (f : ℕ) → InReach s (Value.Frame f) → (v : Value) → Memᴰ v (values_in s.heap.frames f) → Memᴰ (renamed ρ v) (values_in t.heap.frames (ρ.frame f))
   unfolding values_in
   values_renamed f r v m =
-      rw (get_or t.heap.frames (ρ.frame f) (new_frame 0 []), ← a.frames_alike f r)
-      (frame_renamed ρ v (get_elem? s.heap.frames f) (rw (get_or s.heap.frames f (new_frame 0 [])) at m))
+      rw (get_or_lem t.heap.frames (ρ.frame f) (new_frame 0 []), ← a.frames_alike f r)
+      (frame_renamed ρ v (get_elem? s.heap.frames f) (rw (get_or_lem s.heap.frames f (new_frame 0 [])) at m))
 
   -- what is reached is renamed to what is reached
   reach_renamed : {v : Value} → InReach s v → InReach t (renamed ρ v)
