@@ -25,7 +25,7 @@ use Rattle.framed.proofs.ReachCounts.{reach_agrees, reached_once, texts_agree, t
 use Rattle.bounded.specs.Views.{View, frame_at, text_at, used, entries, frames_used, texts_used}
 use Rattle.bounded.specs.Fits.{Valid, valid_integer, valid_literal, valid_made, valid_code, valid_frame, ProgramFits}
 use Rattle.bounded.specs.Store.{Store, Laws, ReachedIn, CollectedTo}
-use Rattle.bounded.specs.Bounded.{Bounded, over_store, room_end, make_room, reserved, reserve}
+use Rattle.bounded.specs.Bounded.{Bounded, over_store, room_end, make_room, reserved}
 use Rattle.bounded.specs.Relation.{Rel, ValueRel, Simulates, WellFormed, Related}
 use Rattle.bounded.proofs.Lists.{In, NoDup, member_in, in_member, once_no_dup, pigeon, Defined, used_is, used_at_least}
 use Rattle.bounded.proofs.Simulates.{Op, value_op, simulates_op, frame_reached, text_reached, Kept, value_kept, collect_kept}

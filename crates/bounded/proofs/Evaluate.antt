@@ -28,7 +28,7 @@ use Rattle.framed.proofs.ReachCounts.{here, there}
 use Rattle.bounded.specs.Views.{View, frame_at, text_at, all_used, entries, frames_used, texts_used, FrameWritten, TextWritten}
 use Rattle.bounded.specs.Fits.{Valid, valid_integer, valid_made, valid_frame, StringBytes, BaseFits, ExpressionFits, SlotsFit, ProgramFits}
 use Rattle.bounded.specs.Store.{Store, Laws, FrameClaimed, TextClaimed}
-use Rattle.bounded.specs.Operations.{Product, text, operated}
+use Rattle.bounded.specs.Operations.{Product, operated}
 use Rattle.bounded.specs.Check.{end_of, first_end, operation_result, check_expression, check_slots}
 use Rattle.bounded.specs.Bounded.{Produced, value_given, produce}
 use Rattle.bounded.specs.Bounded as B

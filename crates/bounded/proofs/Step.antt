@@ -9,7 +9,6 @@ use Prim.Native.Nat.{ℕ, zero, suc, ◌+◌, ◌≤◌, ◌<◌}
 use native.Mathlib.Omega.{arith}
 use lib.ListN.{length, get_or, get_elem?, set}
 use Rattle.framed.specs.declared.Value.{Value}
-use Rattle.framed.specs.declared.Text.{Text}
 use Rattle.framed.specs.Common.{if◌then◌else◌}
 use Rattle.framed.specs.Tree.{Base, Expression, Instruction, Code, ◌then◌}
 use Rattle.framed.specs.Paths.{Path, from_self, from_program, names_of}
@@ -25,7 +24,7 @@ use Rattle.bounded.specs.Store.{Store, Laws}
 use Rattle.bounded.specs.Check.{end_of, first_end, Target, target, has_place, slot_end, target_end, check_put, check_expression, Jump, jump_result, ifeq_end, check}
 use Rattle.bounded.specs.Bounded.{Bounded, over_store, Produced, value_given, reserved, reserve, assign_at, goes_on, commit_assign, commit_jump, commit, line, ready, step_end}
 use Rattle.bounded.specs.Bounded as B
-use Rattle.bounded.specs.Relation.{ValueRel, codes, FramesLinked, Simulates, WellFormed, Related}
+use Rattle.bounded.specs.Relation.{ValueRel, FramesLinked, Simulates, WellFormed, Related}
 use Rattle.bounded.proofs.Views.{frame_read, same_view, Keeps, extends_keeps, written_keeps, valid_kept, written_frames, written_texts, set_written}
 use Rattle.bounded.proofs.Simulates.{same_rel, value_up, slots_up, simulates_extended, BaseRel, both_give, both_end, base_rel, truth_rel, shown_rel, TargetRel, both_lead, none_leads, target_rel, target_unique, place_rel, set_rel, JumpRel, both_jump, none_jumps, jump_rel, write_both}
 use Rattle.bounded.proofs.Validity.{BaseValid, undefined, reads, base_valid}

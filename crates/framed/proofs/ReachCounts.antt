@@ -15,7 +15,6 @@ use Rattle.framed.specs.declared.Text.{Text}
 use Rattle.framed.specs.Common.{if◌then◌else◌, any, member, total, has_twice, distinct}
 use Rattle.framed.specs.Values.{Frame, new_frame}
 use Rattle.framed.specs.Reach.{slot_value, values_in, Reachable, unseen_frame, visit, slot_count, roots, reached_frames, made_in, values_of_all, texts_from, reached_texts}
-use Rattle.framed.specs.Reach as R
 use Rattle.framed.specs.Calls.{frame_total, text_total}
 use Rattle.framed.specs.Theorems.{ReachCounts}
 use Rattle.framed.proofs.General.{none≢some, some≢none, some_inj, to_true}
