@@ -1,0 +1,8 @@
+use Rattle.commit.proofs.Laws.{put_nowhere, put_somewhere}
+use Rattle.commit.proofs.put.Goals as goal
+
+pub returns-in_default : goal.returns-in_default
+returns-in_default c = search put_nowhere
+
+pub returns : goal.returns
+returns c = search put_somewhere

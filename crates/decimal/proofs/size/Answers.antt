@@ -1,0 +1,19 @@
+use mathlib.Core.Path.{ap, ◌∙◌}
+use Rattle.ints.specs.Ints.{word_of}
+use native.Mathlib.Omega.{arith}
+use Rattle.decimal.proofs.Laws.{size_up, size_down}
+use borrow.Author.Rules.{rules}
+use Rattle.decimal.proofs.size.Goals as goal
+
+pub returns-then-word-lt2147483648 : goal.returns-then-word-lt2147483648
+returns-then-word-lt2147483648 c =
+    let a = c in
+    size_up _ a.before.ranges.n _ (a.word_of.ensures ∙ ap word_of (search rules)) _ (omega arith) c.digit_count.ensures.count
+
+pub returns : goal.returns
+returns c =
+    let a = c in
+    size_down _ a.before.ranges.n _ (a.word_of.ensures ∙ ap word_of (search rules)) _ (omega arith) c.digit_count-2.ensures.count
+
+pub overflow_add-result : goal.overflow_add-result
+overflow_add-result c = omega (arith, c.digit_count-2.ensures.most)

@@ -1,0 +1,8 @@
+use Rattle.emit_leaves.proofs.Laws.{place_none, place_next}
+use Rattle.emit_leaves.proofs.first_place.Goals as goal
+
+pub returns-then-k-eq15 : goal.returns-then-k-eq15
+returns-then-k-eq15 c = search place_none
+
+pub returns : goal.returns
+returns c = search place_next

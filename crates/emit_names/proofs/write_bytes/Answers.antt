@@ -1,0 +1,12 @@
+use Rattle.emit_names.proofs.Laws.{writing_start, writing_again, writing_done}
+use Prim.Native.Nat.{◌-◌}
+use Rattle.emit_names.proofs.write_bytes.Goals as goal
+
+pub loop-i-init : goal.loop-i-init
+loop-i-init c = search writing_start
+
+pub loop-i-preserved : goal.loop-i-preserved
+loop-i-preserved c = search writing_again
+
+pub returns : goal.returns
+returns c = search writing_done

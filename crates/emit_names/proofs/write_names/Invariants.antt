@@ -1,0 +1,9 @@
+use Rattle.emit_names.proofs.Laws.{Listing}
+use Prim.Native.Nat.{◌-◌}
+use Rattle.emit_names.proofs.write_names.Given as goal
+
+abbrev pub invariant-loop-k : goal.invariant-loop-k
+invariant-loop-k l = Listing l.s l.begins l.ends l.initial.p l.n l.p l.k
+
+abbrev pub decreases-loop-k : goal.decreases-loop-k
+decreases-loop-k l = l.n - l.k

@@ -1,0 +1,5 @@
+use Rattle.joining.proofs.Laws.{filled, filled_size}
+use Rattle.joining.proofs.fill_join.Goals as goal
+
+pub returns : goal.returns
+returns c = (search filled, search filled_size)

@@ -1,0 +1,11 @@
+use Rattle.framed.specs.Bytes.{class}
+use Prim.Native.Nat.{◌-◌}
+use lib.ListN.{length}
+use Rattle.lexeme.proofs.Laws.{Running}
+use Rattle.lexeme.proofs.run_end.Given as goal
+
+abbrev pub invariant-loop-i : goal.invariant-loop-i
+invariant-loop-i l = Running class l.s l.m l.at l.i
+
+abbrev pub decreases-loop-i : goal.decreases-loop-i
+decreases-loop-i l = length l.s - l.i

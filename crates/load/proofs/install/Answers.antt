@@ -1,0 +1,17 @@
+use Rattle.load.proofs.Laws.{install_can_emit, install_can_start, install_done}
+use borrow.Author.Rules.{rules}
+use Rattle.load.proofs.install.Goals as goal
+
+pub emit-requires : goal.emit-requires
+emit-requires c = (search rules, (search rules, (search rules, (search rules, search install_can_emit))))
+
+pub start-requires : goal.start-requires
+start-requires c =
+    let texts = c in
+    let words = texts.before.before.before.before in
+    let program = words.before.before.before.before.before.before in
+    let begin = program.before.before.before.before.before.before.before.before.before.before.before in
+    install_can_start _ _ _ _ _ _ _ begin.requires.1.1 _ _ _ _ program.emit.ensures words.clear-words.ensures texts.clear-bytes.ensures
+
+pub returns : goal.returns
+returns c = search (install_done, c.requires.kept.1)

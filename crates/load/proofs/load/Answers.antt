@@ -1,0 +1,20 @@
+use Rattle.token_cache.proofs.Laws.{fresh, fresh_unnoted}
+use Rattle.load.proofs.Laws.{loaded_kept, load_can_install, refused_exact, refused_means, loaded_exact, loaded_means}
+use borrow.Author.Rules.{rules}
+use Rattle.load.proofs.load.Goals as goal
+
+)
+
+pub check-answer-requires : goal.check-answer-requires
+check-answer-requires c = (search fresh, (search fresh_unnoted, (search rules, search rules)))
+
+pub returns-in_default : goal.returns-in_default
+returns-in_default c = (search refused_exact, search refused_means)
+
+pub install-requires : goal.install-requires
+install-requires c = (
+  search rules,
+  (search (loaded_kept, c.check-answer.ensures.cached.1, c.enum_told-1.given), load_can_install _ _ _ _ _ _ _ c.check-answer.result c.check-answer.ensures.number (search c.enum_told-1.given)),
+
+pub returns : goal.returns
+returns c = (search loaded_exact, search loaded_means)

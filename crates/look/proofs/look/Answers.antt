@@ -1,0 +1,8 @@
+use Rattle.look.proofs.Laws.{look_refused, look_answered, look_means}
+use Rattle.look.proofs.look.Goals as goal
+
+pub returns-then-not-well_formed : goal.returns-then-not-well_formed
+returns-then-not-well_formed c = (search look_refused, search (look_means, look_refused))
+
+pub returns : goal.returns
+returns c = (search look_answered, search (look_means, look_answered))

@@ -1,0 +1,11 @@
+use Rattle.words.specs.Words.{set_word}
+use Rattle.words.proofs.Laws.{set_past}
+use borrow.Author.Rules.{rules}
+use Rattle.names.proofs.set_place.Goals as goal
+
+pub returns-then-m-k : goal.returns-then-m-k
+returns-then-m-k c = search set_past
+
+pub returns : goal.returns
+unfolding set_word
+returns c = search rules

@@ -1,0 +1,13 @@
+use Rattle.operands.proofs.Numbers.{packed_value}
+use Rattle.operands.specs.Operands.{unpacked}
+use borrow.Author.Rules.{rules}
+use Rattle.operands.proofs.pack.Goals as goal
+
+pub returns-in_default : goal.returns-in_default
+unfolding unpacked
+returns-in_default c = cc
+
+pub returns : goal.returns
+returns c =
+    let v = c in
+    packed_value _ _ v.known-told.given.0 _ v.before.r.given.1 _ _ c.number_of.ensures c.tag_of.ensures (search rules)

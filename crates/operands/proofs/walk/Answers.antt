@@ -1,0 +1,52 @@
+use Prim.Native.Nat.{◌+◌, ◌-◌}
+use Rattle.words.specs.Words.{word}
+use Rattle.operands.proofs.Numbers.{along_start, walked_low, walked_past, walked_free, walked_many, walked_missing, along_again, walked_high, walked_value}
+use Rattle.operands.proofs.walk.Goals as goal
+
+pub loop-i-init : goal.loop-i-init
+unfolding word
+loop-i-init c = search (along_start, c.shared_slice_known-4-1.given (c.args.root + 1))
+
+pub returns-then-tag-lt4 : goal.returns-then-tag-lt4
+returns-then-tag-lt4 c = search walked_low
+
+pub returns-then-f-ge256 : goal.returns-then-f-ge256
+returns-then-f-ge256 c = search walked_past
+
+pub returns-then-h-a-ne1 : goal.returns-then-h-a-ne1
+unfolding word
+returns-then-h-a-ne1 c = search walked_free
+
+pub returns-then-c-gt16 : goal.returns-then-c-gt16
+unfolding word
+returns-then-c-gt16 c =
+    let g = c in
+    let l = g.before.before.before.before in
+    walked_many _ _ _ _ _ _ _ _ l.loop.invariant g.before.before.before.loop-test.true g.before.before.if1.false g.before.if2.false _ g.wide.ensures
+    c.if-h-a-ne1.false c.if-c-gt16.true
+
+pub returns-then-k-eq0 : goal.returns-then-k-eq0
+unfolding word
+returns-then-k-eq0 c =
+    let d = c in
+    let g = d.before.before.before.before.before in
+    let l = g.before.before.before.before in
+    walked_missing _ _ _ _ _ _ _ _ l.loop.invariant g.before.before.before.loop-test.true g.before.before.if1.false g.before.if2.false _ g.wide.ensures
+    d.before.before.before.if3.false d.before.if4.false l.before.before.before.before.before.requires.names_start _ _ d.wide2.ensures c.slot_place-k.ensures c.if-k-eq0.true
+
+pub loop-i-preserved : goal.loop-i-preserved
+unfolding word
+loop-i-preserved c =
+    let r = c in
+    let d = r.before.before in
+    let g = d.before.before.before.before.before in
+    let l = g.before.before.before.before in
+    along_again _ _ _ _ _ _ _ _ l.loop.invariant g.before.before.before.loop-test.true g.before.before.if1.false g.before.if2.false _ g.wide.ensures
+    d.before.before.before.if3.false d.before.if4.false l.before.before.before.before.before.requires.names_start _ _ d.wide2.ensures r.slot_place.ensures c.if-k-eq0.false
+    (c.shared_slice_known-in-loop-i-5-1.given (r.slot_place.result + 2))
+
+pub returns-then-tag-gt4 : goal.returns-then-tag-gt4
+returns-then-tag-gt4 c = search walked_high
+
+pub returns : goal.returns
+returns c = search walked_value

@@ -1,0 +1,6 @@
+use Rattle.shown.proofs.Laws.{digits_written, digits_size}
+use borrow.Author.Rules.{rules}
+use Rattle.shown.proofs.write_integer.Goals as goal
+
+pub returns : goal.returns
+returns c = (search (digits_written, rules), (search (digits_size, rules), search rules))

@@ -1,0 +1,18 @@
+use native.Mathlib.Omega.{arith}
+use Rattle.joining.proofs.Laws.{front_size}
+use Rattle.step_join.proofs.Laws.{long_ended, can_put}
+use borrow.Author.Rules.{rules}
+use Rattle.step_join.proofs.join_values.Goals as goal
+
+pub returns-then-n-gt64 : goal.returns-then-n-gt64
+returns-then-n-gt64 c = search long_ended
+
+pub slice_bounds-put_join-end : goal.slice_bounds-put_join-end
+slice_bounds-put_join-end c = front_size _ _ (omega arith) (search rules)
+
+pub put_join-requires : goal.put_join-requires
+put_join-requires c =
+    let filled = c in (
+      can_put _ _ _ _ _ _ _ (search rules) _ filled.fill-join.ensures.1 (omega arith) _ _ (search rules) filled.fill-join.ensures.0,
+      search rules,
+    )

@@ -1,0 +1,19 @@
+use Rattle.survey.proofs.Laws.{take_few, take_marked, take_numbered, take_small, take_store, taken_name, taken_many, taken_other}
+use borrow.Author.Rules.{rules}
+use Rattle.survey.proofs.take.Goals as goal
+use Rattle.survey.proofs.take.Goals.{else-k-eq25, then-k-eq25}
+
+pub number-j-requires : goal.number-j-requires
+number-j-requires c = (take_few _ _ _ _ _ _ _ _ _ _ _ c.requires (search rules), (take_marked _ _ _ _ _ _ _ _ _ _ _ c.requires (search rules), search take_numbered))
+
+pub overflow_add-j : goal.overflow_add-j
+overflow_add-j c = search (rules, take_small _ _ _ _ _ _ _ _ _ _ _ c.requires _ _ _ _ (search rules) c.number-j.ensures)
+
+pub store_name-requires : goal.store_name-requires
+store_name-requires c = search take_store
+
+pub returns-then-n-le128 : goal.returns-then-n-le128
+returns-then-n-le128 c = (search rules, taken_name _ _ _ _ _ _ _ _ _ _ _ c.requires _ _ _ _ (search rules) c.number-j.ensures (search c.if-k-eq25.true) _ c.store_name.ensures.entry c.store_name.ensures.cached.1)
+
+pub returns : goal.returns
+returns c = (search rules, elim c.if-k-eq25.branch [ then-k-eq25 w ↦ search taken_many | else-k-eq25 w ↦ search taken_other ])

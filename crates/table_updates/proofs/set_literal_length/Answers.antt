@@ -1,0 +1,6 @@
+use Rattle.table_updates.specs.Updates.{set_literal_length}
+use Rattle.table_updates.proofs.set_literal_length.Goals as goal
+
+pub returns : goal.returns
+unfolding set_literal_length
+returns c = rw (c.set_word.ensures, c.wide.ensures)

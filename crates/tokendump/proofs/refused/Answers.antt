@@ -1,0 +1,6 @@
+use Rattle.token_cache.proofs.Laws.{fresh, fresh_unnoted}
+use borrow.Author.Rules.{rules}
+use Rattle.tokendump.proofs.refused.Goals as goal
+
+pub survey-found-requires : goal.survey-found-requires
+survey-found-requires c = (record { short = search rules }, (search fresh, (search fresh_unnoted, (search rules, search rules))))

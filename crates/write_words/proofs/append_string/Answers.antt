@@ -1,0 +1,17 @@
+use Rattle.write_words.proofs.Words.{string_end, string_appended}
+use Rattle.write_words.proofs.Laws.{can_append}
+use Rattle.write_words.proofs.append_string.Goals as goal
+
+-- look: part-append-end : tie.Need-slice-bounds-append-end
+-- part-append-end c = search string_end
+
+pub append-b-requires : goal.append-b-requires
+append-b-requires c = search can_append
+
+pub append-requires : goal.append-requires
+append-requires c =
+    let after = c in
+    can_append (append-requires-2 after.before κs) after.append2.ensures
+
+pub returns : goal.returns
+returns c = search string_appended
