@@ -61,7 +61,7 @@ fn check_single<'a>(
     check_operation(p, l, h, t, o, a, b)
 }
 
-#[cycle(check_expression_check_slots)]
+#[cycle(check)]
 fn check_expression<'a>(p: &[u32], l: &'a [u8], h: &[u32], t: &'a [u8], x: u32) -> u32
     requires { ChecksExpression p.now l.now h.now t.now x }
     ensures { result ≡ expression_end p.now l.now h.now t.now x }
@@ -74,7 +74,7 @@ fn check_expression<'a>(p: &[u32], l: &'a [u8], h: &[u32], t: &'a [u8], x: u32) 
 }
 
 // The slots from a place on, in order; a base (kinds 0 to 4) is looked at here.
-#[cycle(check_expression_check_slots)]
+#[cycle(check)]
 fn check_slots<'a>(p: &[u32], l: &'a [u8], h: &[u32], t: &'a [u8], from: u32) -> u32
     requires { ChecksSlots p.now l.now h.now t.now from }
     ensures { result ≡ slots_end p.now l.now h.now t.now from }

@@ -19,7 +19,7 @@ use tables::{ExpressionEntry, InstructionEntry};
 // ---- Bases
 
 // `code` `{` instructions `}`; the first token is t.
-#[cycle(assigning_base_binary_block_branching_expression_frame_instruction_instructions_jumping_line_negation_operand_right_showing_slot_slots)]
+#[cycle(tree)]
 fn block(
     c: &[u64; 16384],
     s: &[u8],
@@ -48,7 +48,7 @@ fn block(
 }
 
 // Integer, string, path or code as expression x; its first token is t.
-#[cycle(assigning_base_binary_block_branching_expression_frame_instruction_instructions_jumping_line_negation_operand_right_showing_slot_slots)]
+#[cycle(tree)]
 fn base(
     c: &[u64; 16384],
     s: &[u8],
@@ -78,7 +78,7 @@ fn base(
 }
 
 // A base as the next expression.
-#[cycle(assigning_base_binary_block_branching_expression_frame_instruction_instructions_jumping_line_negation_operand_right_showing_slot_slots)]
+#[cycle(tree)]
 fn operand(
     c: &[u64; 16384],
     s: &[u8],
@@ -102,7 +102,7 @@ fn operand(
 // ---- Expressions
 
 // `!` base; the first token is t.
-#[cycle(assigning_base_binary_block_branching_expression_frame_instruction_instructions_jumping_line_negation_operand_right_showing_slot_slots)]
+#[cycle(tree)]
 fn negation(
     c: &[u64; 16384],
     s: &[u8],
@@ -125,7 +125,7 @@ fn negation(
 }
 
 // base operator base; the first token is t.
-#[cycle(assigning_base_binary_block_branching_expression_frame_instruction_instructions_jumping_line_negation_operand_right_showing_slot_slots)]
+#[cycle(tree)]
 fn binary(
     c: &[u64; 16384],
     s: &[u8],
@@ -150,7 +150,7 @@ fn binary(
 }
 
 // `frame` `:` `[` slots `]`; the first token is t.
-#[cycle(assigning_base_binary_block_branching_expression_frame_instruction_instructions_jumping_line_negation_operand_right_showing_slot_slots)]
+#[cycle(tree)]
 fn frame(
     c: &[u64; 16384],
     s: &[u8],
@@ -179,7 +179,7 @@ fn frame(
 
 // An expression as expression x, whose first token is t; `inner` is the place of what is written in a frame that it is. Outside code
 // it is no operation.
-#[cycle(assigning_base_binary_block_branching_expression_frame_instruction_instructions_jumping_line_negation_operand_right_showing_slot_slots)]
+#[cycle(tree)]
 fn expression(
     c: &[u64; 16384],
     s: &[u8],
@@ -212,7 +212,7 @@ fn expression(
 }
 
 // An expression as the next expression.
-#[cycle(assigning_base_binary_block_branching_expression_frame_instruction_instructions_jumping_line_negation_operand_right_showing_slot_slots)]
+#[cycle(tree)]
 fn right(
     c: &[u64; 16384],
     s: &[u8],
@@ -237,7 +237,7 @@ fn right(
 // ---- Slots
 
 // One slot, whose name is the token t and whose expression begins at q.
-#[cycle(assigning_base_binary_block_branching_expression_frame_instruction_instructions_jumping_line_negation_operand_right_showing_slot_slots)]
+#[cycle(tree)]
 fn slot(
     c: &[u64; 16384],
     s: &[u8],
@@ -262,7 +262,7 @@ fn slot(
 }
 
 // Slots, parted by commas; the first token is `first`.
-#[cycle(assigning_base_binary_block_branching_expression_frame_instruction_instructions_jumping_line_negation_operand_right_showing_slot_slots)]
+#[cycle(tree)]
 fn slots(
     c: &[u64; 16384],
     s: &[u8],
@@ -298,7 +298,7 @@ fn slots(
 // ---- Instructions
 
 // `show` base; the first token is t.
-#[cycle(assigning_base_binary_block_branching_expression_frame_instruction_instructions_jumping_line_negation_operand_right_showing_slot_slots)]
+#[cycle(tree)]
 fn showing(
     c: &[u64; 16384],
     s: &[u8],
@@ -321,7 +321,7 @@ fn showing(
 }
 
 // `jump` base base; the first token is t.
-#[cycle(assigning_base_binary_block_branching_expression_frame_instruction_instructions_jumping_line_negation_operand_right_showing_slot_slots)]
+#[cycle(tree)]
 fn jumping(
     c: &[u64; 16384],
     s: &[u8],
@@ -345,7 +345,7 @@ fn jumping(
 }
 
 // `ifeq` base base base; the first token is t.
-#[cycle(assigning_base_binary_block_branching_expression_frame_instruction_instructions_jumping_line_negation_operand_right_showing_slot_slots)]
+#[cycle(tree)]
 fn branching(
     c: &[u64; 16384],
     s: &[u8],
@@ -371,7 +371,7 @@ fn branching(
 }
 
 // path `:=` expression; the first token is t.
-#[cycle(assigning_base_binary_block_branching_expression_frame_instruction_instructions_jumping_line_negation_operand_right_showing_slot_slots)]
+#[cycle(tree)]
 fn assigning(
     c: &[u64; 16384],
     s: &[u8],
@@ -393,7 +393,7 @@ fn assigning(
 }
 
 // An instruction as instruction i; its first token is t.
-#[cycle(assigning_base_binary_block_branching_expression_frame_instruction_instructions_jumping_line_negation_operand_right_showing_slot_slots)]
+#[cycle(tree)]
 fn instruction(
     c: &[u64; 16384],
     s: &[u8],
@@ -423,7 +423,7 @@ fn instruction(
 }
 
 // One instruction with its `;`; its first token is t.
-#[cycle(assigning_base_binary_block_branching_expression_frame_instruction_instructions_jumping_line_negation_operand_right_showing_slot_slots)]
+#[cycle(tree)]
 fn line(
     c: &[u64; 16384],
     s: &[u8],
@@ -446,7 +446,7 @@ fn line(
 }
 
 // Instructions, each closed by `;`, up to `}`; the first token is `first`.
-#[cycle(assigning_base_binary_block_branching_expression_frame_instruction_instructions_jumping_line_negation_operand_right_showing_slot_slots)]
+#[cycle(tree)]
 fn instructions(
     c: &[u64; 16384],
     s: &[u8],

@@ -30,7 +30,7 @@ fn flat(p: &[u32], l: &[u8], h: &mut [u32], t: &mut [u8], x: u32, low: u32) -> V
 }
 
 // The value of an expression. A frame literal claims its frame first, then its slots are filled in.
-#[cycle(evaluate_fill)]
+#[cycle(evaluate)]
 fn evaluate(p: &[u32], l: &[u8], h: &mut [u32], t: &mut [u8], x: u32, low: u32, least: u32) -> Value
     requires can_evaluate { CanEvaluate p.now l.now h.old t.old x }
     requires full { Full h.old low least }
@@ -45,7 +45,7 @@ fn evaluate(p: &[u32], l: &[u8], h: &mut [u32], t: &mut [u8], x: u32, low: u32, 
 }
 
 // The slots from a place on: each is evaluated, then pushed on frame f; a base (kinds 0 to 4) is read here.
-#[cycle(evaluate_fill)]
+#[cycle(evaluate)]
 pub fn fill(
     p: &[u32],
     l: &[u8],

@@ -156,7 +156,7 @@ fn path(c: &[u64; 16384], s: &[u8], at: usize) -> Found
 }
 
 // `code` `{` instructions `}`
-#[cycle(assigning_base_base_from_binary_block_branching_expression_frame_instruction_instructions_jumping_negation_operation_showing_slots)]
+#[cycle(grammar)]
 fn block(c: &[u64; 16384], s: &[u8], at: usize) -> Found
     requires { Cached c.now s.now }
     ensures { Meets R.block 0 s.now at result }
@@ -177,7 +177,7 @@ fn block(c: &[u64; 16384], s: &[u8], at: usize) -> Found
 }
 
 // A base whose first token is t: integer, string, path or code.
-#[cycle(assigning_base_base_from_binary_block_branching_expression_frame_instruction_instructions_jumping_negation_operation_showing_slots)]
+#[cycle(grammar)]
 pub fn base_from(c: &[u64; 16384], s: &[u8], at: usize, t: Seen) -> Found
     requires { Cached c.now s.now × Sees s.now at t }
     ensures { Meets a_base 1 s.now at result }
@@ -195,7 +195,7 @@ pub fn base_from(c: &[u64; 16384], s: &[u8], at: usize, t: Seen) -> Found
 }
 
 // A base.
-#[cycle(assigning_base_base_from_binary_block_branching_expression_frame_instruction_instructions_jumping_negation_operation_showing_slots)]
+#[cycle(grammar)]
 fn base(c: &[u64; 16384], s: &[u8], at: usize) -> Found
     requires { Cached c.now s.now }
     ensures { Meets a_base 1 s.now at result }
@@ -205,7 +205,7 @@ fn base(c: &[u64; 16384], s: &[u8], at: usize) -> Found
 }
 
 // `!` base
-#[cycle(assigning_base_base_from_binary_block_branching_expression_frame_instruction_instructions_jumping_negation_operation_showing_slots)]
+#[cycle(grammar)]
 fn negation(c: &[u64; 16384], s: &[u8], at: usize) -> Found
     requires { Cached c.now s.now }
     ensures { Meets R.negation 0 s.now at result }
@@ -218,7 +218,7 @@ fn negation(c: &[u64; 16384], s: &[u8], at: usize) -> Found
 }
 
 // Operator and base, or nothing.
-#[cycle(assigning_base_base_from_binary_block_branching_expression_frame_instruction_instructions_jumping_negation_operation_showing_slots)]
+#[cycle(grammar)]
 fn operation(c: &[u64; 16384], s: &[u8], at: usize) -> Found
     requires { Cached c.now s.now }
     ensures { MeetsAll R.operation 0 s.now at result }
@@ -235,7 +235,7 @@ fn operation(c: &[u64; 16384], s: &[u8], at: usize) -> Found
 }
 
 // A base, or base operator base.
-#[cycle(assigning_base_base_from_binary_block_branching_expression_frame_instruction_instructions_jumping_negation_operation_showing_slots)]
+#[cycle(grammar)]
 fn binary(c: &[u64; 16384], s: &[u8], at: usize) -> Found
     requires { Cached c.now s.now }
     ensures { Meets R.binary 2 s.now at result }
@@ -248,7 +248,7 @@ fn binary(c: &[u64; 16384], s: &[u8], at: usize) -> Found
 }
 
 // `frame` `:` `[` slots `]`
-#[cycle(assigning_base_base_from_binary_block_branching_expression_frame_instruction_instructions_jumping_negation_operation_showing_slots)]
+#[cycle(grammar)]
 fn frame(c: &[u64; 16384], s: &[u8], at: usize) -> Found
     requires { Cached c.now s.now }
     ensures { Meets R.frame 0 s.now at result }
@@ -273,7 +273,7 @@ fn frame(c: &[u64; 16384], s: &[u8], at: usize) -> Found
 }
 
 // An expression.
-#[cycle(assigning_base_base_from_binary_block_branching_expression_frame_instruction_instructions_jumping_negation_operation_showing_slots)]
+#[cycle(grammar)]
 fn expression(c: &[u64; 16384], s: &[u8], at: usize) -> Found
     requires { Cached c.now s.now }
     ensures { Meets an_expression 3 s.now at result }
@@ -289,7 +289,7 @@ fn expression(c: &[u64; 16384], s: &[u8], at: usize) -> Found
 }
 
 // Slots, parted by commas.
-#[cycle(assigning_base_base_from_binary_block_branching_expression_frame_instruction_instructions_jumping_negation_operation_showing_slots)]
+#[cycle(grammar)]
 fn slots(c: &[u64; 16384], s: &[u8], at: usize) -> Found
     requires { Cached c.now s.now }
     ensures { Meets slots 0 s.now at result }
@@ -318,7 +318,7 @@ fn slots(c: &[u64; 16384], s: &[u8], at: usize) -> Found
 }
 
 // `show` base
-#[cycle(assigning_base_base_from_binary_block_branching_expression_frame_instruction_instructions_jumping_negation_operation_showing_slots)]
+#[cycle(grammar)]
 fn showing(c: &[u64; 16384], s: &[u8], at: usize) -> Found
     requires { Cached c.now s.now }
     ensures { Meets R.showing 0 s.now at result }
@@ -331,7 +331,7 @@ fn showing(c: &[u64; 16384], s: &[u8], at: usize) -> Found
 }
 
 // `jump` base base
-#[cycle(assigning_base_base_from_binary_block_branching_expression_frame_instruction_instructions_jumping_negation_operation_showing_slots)]
+#[cycle(grammar)]
 fn jumping(c: &[u64; 16384], s: &[u8], at: usize) -> Found
     requires { Cached c.now s.now }
     ensures { Meets R.jumping 0 s.now at result }
@@ -348,7 +348,7 @@ fn jumping(c: &[u64; 16384], s: &[u8], at: usize) -> Found
 }
 
 // `ifeq` base base base
-#[cycle(assigning_base_base_from_binary_block_branching_expression_frame_instruction_instructions_jumping_negation_operation_showing_slots)]
+#[cycle(grammar)]
 fn branching(c: &[u64; 16384], s: &[u8], at: usize) -> Found
     requires { Cached c.now s.now }
     ensures { Meets R.branching 0 s.now at result }
@@ -369,7 +369,7 @@ fn branching(c: &[u64; 16384], s: &[u8], at: usize) -> Found
 }
 
 // path `:=` expression
-#[cycle(assigning_base_base_from_binary_block_branching_expression_frame_instruction_instructions_jumping_negation_operation_showing_slots)]
+#[cycle(grammar)]
 fn assigning(c: &[u64; 16384], s: &[u8], at: usize) -> Found
     requires { Cached c.now s.now }
     ensures { Meets R.assigning 0 s.now at result }
@@ -386,7 +386,7 @@ fn assigning(c: &[u64; 16384], s: &[u8], at: usize) -> Found
 }
 
 // An instruction.
-#[cycle(assigning_base_base_from_binary_block_branching_expression_frame_instruction_instructions_jumping_negation_operation_showing_slots)]
+#[cycle(grammar)]
 fn instruction(c: &[u64; 16384], s: &[u8], at: usize) -> Found
     requires { Cached c.now s.now }
     ensures { Meets an_instruction 1 s.now at result }
@@ -405,7 +405,7 @@ fn instruction(c: &[u64; 16384], s: &[u8], at: usize) -> Found
 }
 
 // Instructions, each closed by `;`.
-#[cycle(assigning_base_base_from_binary_block_branching_expression_frame_instruction_instructions_jumping_negation_operation_showing_slots)]
+#[cycle(grammar)]
 fn instructions(c: &[u64; 16384], s: &[u8], at: usize) -> Found
     requires { Cached c.now s.now }
     ensures { Meets instructions 2 s.now at result }

@@ -57,7 +57,7 @@ fn join_sign(e: ExpressionEntry) -> u32
 }
 
 // f and t of expression x
-#[cycle(made_in_made_of)]
+#[cycle(made)]
 fn made_of(p: &[u32], x: u32) -> u32
     requires { AtExpression p.now x }
     ensures { result ≡ both (frame_literals (expression_held p.now x)) (join_signs (expression_held p.now x)) }
@@ -70,7 +70,7 @@ fn made_of(p: &[u32], x: u32) -> u32
 }
 
 // f and t of the slots from a place on; a base (kinds 0 to 4) has none
-#[cycle(made_in_made_of)]
+#[cycle(made)]
 fn made_in(p: &[u32], from: u32) -> u32
     requires { AtSlots p.now from }
     ensures { result ≡ both (frame_literals_in (slots_held p.now from)) (join_signs_in (slots_held p.now from)) }

@@ -46,7 +46,7 @@ fn same_names(p: &[u32], j: u32, n: u32, k: u32, m: u32) -> bool
 }
 
 // Expressions x and y, which are bases.
-#[cycle(same_base_same_expression_same_instruction_same_list_same_slots_same_three_same_two)]
+#[cycle(same)]
 fn same_base(p: &[u32], l: &[u8], x: u32, y: u32) -> bool
     requires { TwoBases p.now l.now x y }
     ensures { result ≡ bases_agree p.now l.now x y }
@@ -76,7 +76,7 @@ fn same_base(p: &[u32], l: &[u8], x: u32, y: u32) -> bool
 }
 
 // a with c, and b with d.
-#[cycle(same_base_same_expression_same_instruction_same_list_same_slots_same_three_same_two)]
+#[cycle(same)]
 fn same_two(p: &[u32], l: &[u8], a: u32, b: u32, c: u32, d: u32) -> bool
     requires { TwoBases p.now l.now a c × TwoBases p.now l.now b d }
     ensures { result ≡ two_agree p.now l.now a b c d }
@@ -91,7 +91,7 @@ fn same_two(p: &[u32], l: &[u8], a: u32, b: u32, c: u32, d: u32) -> bool
 }
 
 // a with d, b with e, and c with f.
-#[cycle(same_base_same_expression_same_instruction_same_list_same_slots_same_three_same_two)]
+#[cycle(same)]
 fn same_three(p: &[u32], l: &[u8], a: u32, b: u32, c: u32, d: u32, e: u32, f: u32) -> bool
     requires { TwoBases p.now l.now a d × TwoBases p.now l.now b e × TwoBases p.now l.now c f }
     ensures { result ≡ three_agree p.now l.now a b c d e f }
@@ -106,7 +106,7 @@ fn same_three(p: &[u32], l: &[u8], a: u32, b: u32, c: u32, d: u32, e: u32, f: u3
 }
 
 // Expressions x and y.
-#[cycle(same_base_same_expression_same_instruction_same_list_same_slots_same_three_same_two)]
+#[cycle(same)]
 fn same_expression(p: &[u32], l: &[u8], x: u32, y: u32) -> bool
     requires { TwoExpressions p.now l.now x y }
     ensures { result ≡ expressions_agree p.now l.now x y }
@@ -137,7 +137,7 @@ fn same_expression(p: &[u32], l: &[u8], x: u32, y: u32) -> bool
 }
 
 // The slots from two places on: names and expressions in order.
-#[cycle(same_base_same_expression_same_instruction_same_list_same_slots_same_three_same_two)]
+#[cycle(same)]
 fn same_slots(p: &[u32], l: &[u8], from: u32, to: u32) -> bool
     requires { TwoSlotPlaces p.now l.now from to }
     ensures { result ≡ slots_agree p.now l.now from to }
@@ -161,7 +161,7 @@ fn same_slots(p: &[u32], l: &[u8], from: u32, to: u32) -> bool
 }
 
 // Instructions i and j.
-#[cycle(same_base_same_expression_same_instruction_same_list_same_slots_same_three_same_two)]
+#[cycle(same)]
 fn same_instruction(p: &[u32], l: &[u8], i: u32, j: u32) -> bool
     requires { TwoInstructions p.now l.now i j }
     ensures { result ≡ instructions_agree p.now l.now i j }
@@ -192,7 +192,7 @@ fn same_instruction(p: &[u32], l: &[u8], i: u32, j: u32) -> bool
 }
 
 // The instructions from two places on.
-#[cycle(same_base_same_expression_same_instruction_same_list_same_slots_same_three_same_two)]
+#[cycle(same)]
 fn same_list(p: &[u32], l: &[u8], from: u32, to: u32) -> bool
     requires { TwoCodePlaces p.now l.now from to }
     ensures { result ≡ lists_agree p.now l.now from to }

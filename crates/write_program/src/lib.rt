@@ -22,7 +22,7 @@ use write_words::{
 // In code: `holding` are the names of the holding frame.
 
 // Expression x read as a base; what is no base is written as 0.
-#[cycle(base_text_code_text_expression_text_instruction_text_slots_text)]
+#[cycle(code)]
 fn base_text(
     p: &[u32],
     l: &[u8],
@@ -55,7 +55,7 @@ fn base_text(
 }
 
 // The instructions from a place on, each closed by `;`.
-#[cycle(base_text_code_text_expression_text_instruction_text_slots_text)]
+#[cycle(code)]
 fn code_text(
     p: &[u32],
     l: &[u8],
@@ -83,7 +83,7 @@ fn code_text(
 }
 
 // Instruction i. Well-formed words have none without a form.
-#[cycle(base_text_code_text_expression_text_instruction_text_slots_text)]
+#[cycle(code)]
 fn instruction_text(
     p: &[u32],
     l: &[u8],
@@ -129,7 +129,7 @@ fn instruction_text(
 }
 
 // Expression x; one that is no frame, `!` or operation is a base.
-#[cycle(base_text_code_text_expression_text_instruction_text_slots_text)]
+#[cycle(code)]
 fn expression_text(
     p: &[u32],
     l: &[u8],
@@ -186,7 +186,7 @@ fn slot_head(p: &[u32], m: &mut [u8], limit: usize, at: usize, first: bool, y: u
 }
 
 // The slots from a place on, in a frame in code.
-#[cycle(base_text_code_text_expression_text_instruction_text_slots_text)]
+#[cycle(code)]
 fn slots_text(
     p: &[u32],
     l: &[u8],
@@ -216,7 +216,7 @@ fn slots_text(
 // Outside code: the first `depth` numbers of `g` are the names of the frame that holds the slots.
 
 // The expression of slot y.
-#[cycle(frame_text_outside_text)]
+#[cycle(frame)]
 fn outside_text(
     p: &[u32],
     l: &[u8],
@@ -241,7 +241,7 @@ fn outside_text(
 }
 
 // The slots from a place on.
-#[cycle(frame_text_outside_text)]
+#[cycle(frame)]
 fn frame_text(
     p: &[u32],
     l: &[u8],

@@ -1,0 +1,378 @@
+use native.Mathlib.Omega.{arith}
+use borrow.Author.Rules.{rules}
+use Rattle.write_program.proofs.Laws.{can_next, write_next, can_second, write_second, write_third, text_past, string_there, self_path_there, program_path_there}
+use Rattle.write_program.proofs.Laws.{base_integer, base_string, base_self, base_program, base_other, code_place, code_falls, base_code, frame_place}
+use Rattle.write_program.proofs.Laws.{frame_falls, expression_frame, not_there, not_falls, expression_not, left_there, right_there, left_falls, right_falls}
+use Rattle.write_program.proofs.Laws.{expression_operation, plain_falls, expression_plain, assign_self_path, assign_self_there, assign_self_falls}
+use Rattle.write_program.proofs.Laws.{instruction_self, assign_program_path, assign_program_there, assign_program_falls, instruction_program, show_there}
+use Rattle.write_program.proofs.Laws.{show_falls, instruction_show, jump_operands, instruction_jump, ifeq_first, ifeq_second, ifeq_third, ifeq_first_falls}
+use Rattle.write_program.proofs.Laws.{ifeq_second_falls, ifeq_third_falls, instruction_ifeq, instruction_formed}
+use Rattle.write_program.proofs.Loops.{code_start, code_size, code_past, code_end, code_can, code_semicolon, instruction_there, code_less, code_again}
+use Rattle.write_program.proofs.Loops.{instruction_falls, slots_start, slots_size, slots_past, slots_end, slots_can, slot_can, slot_there}
+use Rattle.write_program.proofs.Loops.{slot_named, slots_less, slot_falls, slots_in_code}
+use Rattle.write_program.proofs.+code.Goals as goal
+
+pub +base-text-code-text-expression-text-instruction-text-slots-text-spec :
+    {M : Type 1} → statement M
++base-text-code-text-expression-text-instruction-text-slots-text-spec =
+    close
+    μ_base_text
+    μ_code_text
+    μ_expression_text
+    μ_instruction_text
+    μ_slots_text
+    (λ t. base-text-lts.spec (base_text_calls t)
+    (base_text_at t)
+    base_text.Post
+    (base_text_returns t)
+    (λ c κs. search rules)
+    (λ c. search rules)
+    (λ c κs. search rules)
+    (λ c κs. search rules)
+    (λ c. search rules)
+    (base_text_append_string_requires t)
+    (λ c. search rules)
+    (base_text_append_self_path_requires t)
+    (λ c. search rules)
+    (base_text_append_program_path_requires t)
+    (λ c. search rules)
+    (λ c. search rules)
+    (λ c κs. search rules)
+    (λ c κs. search rules)
+    (base_text_code_text_requires t)
+    (λ c. search rules)
+    (base_text_append_requires_2 t)
+    (λ c. search rules)
+    (λ c κs. search rules)
+    (λ c. search rules)
+    (base_text_returns_2 t)
+    (λ c. search rules)
+    (base_text_returns_3 t)
+    (λ c. search rules)
+    (base_text_returns_4 t)
+    (λ c. search rules)
+    (base_text_returns_5 t)
+    (λ c. search rules)
+    (base_text_returns_6 t)
+    (λ c. search rules)
+    (base_text_returns_7 t))
+    (λ t. code-text-lts.spec (code_text_calls t)
+    (code_text_at t)
+    code_text.Post
+    code_text_Inv_loop
+    code_text_μ_loop
+    (code_text_loop_holds t)
+    (code_text_same_length t)
+    (code_text_returns t)
+    (λ c. omega arith)
+    (code_text_instruction_text_requires t)
+    (λ c. search rules)
+    (code_text_append_requires t)
+    (λ c. omega arith)
+    (λ c κs. search rules)
+    (code_text_loop_less t)
+    (code_text_loop_again t)
+    (code_text_same_length_2 t)
+    (code_text_returns_2 t))
+    (λ t. expression-text-lts.spec (expression_text_calls t)
+    (expression_text_at t)
+    expression_text.Post
+    (λ c κs. search rules)
+    (λ c. search rules)
+    (λ c. search rules)
+    (λ c κs. search rules)
+    (λ c κs. search rules)
+    (expression_text_slots_text_requires t)
+    (λ c. search rules)
+    (expression_text_append_requires_2 t)
+    (λ c. search rules)
+    (λ c. search rules)
+    (λ c κs. search rules)
+    (expression_text_base_text_requires t)
+    (λ c. search rules)
+    (expression_text_base_text_requires_2 t)
+    (expression_text_append_operator_requires t)
+    (expression_text_base_text_requires_3 t)
+    (expression_text_base_text_requires_4 t)
+    (λ c. search rules)
+    (expression_text_returns t)
+    (λ c. search rules)
+    (expression_text_returns_2 t)
+    (λ c. search rules)
+    (expression_text_returns_3 t)
+    (λ c. search rules)
+    (expression_text_returns_4 t))
+    (λ t. instruction-text-lts.spec (instruction_text_calls t)
+    (instruction_text_at t)
+    instruction_text.Post
+    (λ c κs. search rules)
+    (λ c. search rules)
+    (instruction_text_append_self_path_requires t)
+    (λ c. search rules)
+    (instruction_text_append_requires t)
+    (instruction_text_expression_text_requires t)
+    (λ c. search rules)
+    (instruction_text_append_program_path_requires t)
+    (λ c. search rules)
+    (instruction_text_append_requires_2 t)
+    (instruction_text_expression_text_requires_2 t)
+    (λ c. search rules)
+    (λ c. search rules)
+    (λ c κs. search rules)
+    (instruction_text_base_text_requires t)
+    (λ c. search rules)
+    (λ c. search rules)
+    (λ c κs. search rules)
+    (instruction_text_base_text_requires_2 t)
+    (instruction_text_base_text_requires_3 t)
+    (λ c. search rules)
+    (λ c. search rules)
+    (λ c κs. search rules)
+    (instruction_text_base_text_requires_4 t)
+    (instruction_text_base_text_requires_5 t)
+    (instruction_text_base_text_requires_6 t)
+    (λ c. search rules)
+    (λ c. search rules)
+    (instruction_text_returns t)
+    (λ c. search rules)
+    (instruction_text_returns_2 t)
+    (λ c. search rules)
+    (instruction_text_returns_3 t)
+    (λ c. search rules)
+    (instruction_text_returns_4 t)
+    (λ c. search rules)
+    (instruction_text_returns_5 t)
+    (instruction_text_returns_6 t))
+    λ t. slots-text-lts.spec (slots_text_calls t)
+    (slots_text_at t)
+    slots_text.Post
+    slots_text_Inv_loop
+    slots_text_μ_loop
+    (slots_text_loop_holds t)
+    (slots_text_same_length t)
+    (slots_text_returns t)
+    (λ c. omega arith)
+    (slots_text_slot_head_requires t)
+    (λ c. omega arith)
+    (slots_text_expression_text_requires t)
+    (λ c. omega arith)
+    (λ c κs. search rules)
+    (slots_text_loop_less t)
+    (slots_text_loop_again t)
+    (slots_text_same_length_2 t)
+    (slots_text_returns_2 t)
+
+pub base_text-returns-then-limit-at : goal.base_text-returns-then-limit-at
+base_text-returns-then-limit-at t c = search text_past
+
+pub base_text-append_string-requires : goal.base_text-append_string-requires
+base_text-append_string-requires t c = (search string_there, search rules)
+
+pub base_text-append_self_path-requires : goal.base_text-append_self_path-requires
+base_text-append_self_path-requires t c = (search self_path_there, search rules)
+
+pub base_text-append_program_path-requires : goal.base_text-append_program_path-requires
+base_text-append_program_path-requires t c = (search program_path_there, search rules)
+
+pub base_text-code_text-b-requires : goal.base_text-code_text-b-requires
+base_text-code_text-b-requires t c = (search code_falls, (search write_next, search code_place))
+
+pub base_text-append-requires : goal.base_text-append-requires
+base_text-append-requires t c =
+    let k₁ = c in
+    let k₂ = k₁.before.before.before.before.before in
+    let k₃ = k₂.before.before.before.before.before.before.before.before.before.before.before.before in
+    can_second k₃.requires.1.0 k₂.append.ensures k₁.code_text.ensures
+
+pub base_text-returns-in-Integer : goal.base_text-returns-in-Integer
+base_text-returns-in-Integer t c = search base_integer
+
+pub base_text-returns-in-Literal : goal.base_text-returns-in-Literal
+base_text-returns-in-Literal t c = search base_string
+
+pub base_text-returns-in-FromSelf : goal.base_text-returns-in-FromSelf
+base_text-returns-in-FromSelf t c = search base_self
+
+pub base_text-returns-in-FromProgram : goal.base_text-returns-in-FromProgram
+base_text-returns-in-FromProgram t c = search base_program
+
+pub base_text-returns-in-Code : goal.base_text-returns-in-Code
+base_text-returns-in-Code t c = search base_code
+
+pub base_text-returns-in_default : goal.base_text-returns-in_default
+base_text-returns-in_default t c = search base_other
+
+pub code_text-loop-z-init : goal.code_text-loop-z-init
+code_text-loop-z-init t c = search code_start
+
+pub code_text-shape_of-m-then-limit-b : goal.code_text-shape_of-m-then-limit-b
+code_text-shape_of-m-then-limit-b t c = search code_size
+
+pub code_text-returns-then-limit-b : goal.code_text-returns-then-limit-b
+code_text-returns-then-limit-b t c = search code_past
+
+pub code_text-instruction_text-a-requires : goal.code_text-instruction_text-a-requires
+code_text-instruction_text-a-requires t c = (search instruction_falls, (search code_can, search instruction_there))
+
+pub code_text-append-b-requires : goal.code_text-append-b-requires
+code_text-append-b-requires t c = search (code_semicolon, c.instruction_text-a.ensures)
+
+pub code_text-loop-z-smaller : goal.code_text-loop-z-smaller
+code_text-loop-z-smaller t c = search code_less
+
+pub code_text-loop-z-preserved : goal.code_text-loop-z-preserved
+code_text-loop-z-preserved t c = search code_again
+
+pub code_text-shape_of-m : goal.code_text-shape_of-m
+code_text-shape_of-m t c = search code_size
+
+pub code_text-returns : goal.code_text-returns
+code_text-returns t c = search code_end
+
+pub expression_text-slots_text-b-requires : goal.expression_text-slots_text-b-requires
+expression_text-slots_text-b-requires t c = (search frame_falls, (search write_next, search frame_place))
+
+pub expression_text-append-requires : goal.expression_text-append-requires
+expression_text-append-requires t c =
+    let k₁ = c in
+    let k₂ = k₁.before.before.before.before.before in
+    let k₃ = k₂.before.before.before.before.before.before.before.before.before.before.before in
+    can_second k₃.requires.1.0 k₂.append.ensures k₁.slots_text.ensures
+
+pub expression_text-base_text-requires : goal.expression_text-base_text-requires
+expression_text-base_text-requires t c = (search not_falls, (search write_next, search not_there))
+
+pub expression_text-base_text-a-requires : goal.expression_text-base_text-a-requires
+expression_text-base_text-a-requires t c = (search left_falls, (search rules, search left_there))
+
+pub expression_text-append_operator-b-requires : goal.expression_text-append_operator-b-requires
+expression_text-append_operator-b-requires t c = search can_next
+
+pub expression_text-base_text-requires-in-Operate : goal.expression_text-base_text-requires-in-Operate
+expression_text-base_text-requires-in-Operate t c = (search right_falls, (search (write_second, c.base_text-a.ensures, c.append_operator-b.ensures), search right_there))
+
+pub expression_text-base_text-requires-in_default : goal.expression_text-base_text-requires-in_default
+expression_text-base_text-requires-in_default t c = (search plain_falls, (search rules, search rules))
+
+pub expression_text-returns-in-Frame : goal.expression_text-returns-in-Frame
+expression_text-returns-in-Frame t c = search expression_frame
+
+pub expression_text-returns-in-Not : goal.expression_text-returns-in-Not
+expression_text-returns-in-Not t c = search expression_not
+
+pub expression_text-returns-in-Operate : goal.expression_text-returns-in-Operate
+expression_text-returns-in-Operate t c = search expression_operation
+
+pub expression_text-returns-in_default : goal.expression_text-returns-in_default
+expression_text-returns-in_default t c = search expression_plain
+
+pub instruction_text-append_self_path-a-requires : goal.instruction_text-append_self_path-a-requires
+instruction_text-append_self_path-a-requires t c = (search assign_self_path, search rules)
+
+pub instruction_text-append-b-requires : goal.instruction_text-append-b-requires
+instruction_text-append-b-requires t c = search can_next
+
+pub instruction_text-expression_text-requires : goal.instruction_text-expression_text-requires
+instruction_text-expression_text-requires t c = (search assign_self_falls, (search (write_second, c.append_self_path-a.ensures, c.append-b.ensures), search assign_self_there))
+
+pub instruction_text-append_program_path-a-requires : goal.instruction_text-append_program_path-a-requires
+instruction_text-append_program_path-a-requires t c = (search assign_program_path, search rules)
+
+pub instruction_text-append-b-requires-in-AssignProgram : goal.instruction_text-append-b-requires-in-AssignProgram
+instruction_text-append-b-requires-in-AssignProgram t c = search can_next
+
+pub instruction_text-expression_text-requires-in-AssignProgram : goal.instruction_text-expression_text-requires-in-AssignProgram
+instruction_text-expression_text-requires-in-AssignProgram t c = (search assign_program_falls, (search (write_second, c.append_program_path-a.ensures, c.append-b-in-AssignProgram.ensures), search assign_program_there))
+
+pub instruction_text-base_text-requires : goal.instruction_text-base_text-requires
+instruction_text-base_text-requires t c = (search show_falls, (search (write_next, c.append-a.ensures), search show_there))
+
+pub instruction_text-base_text-b-requires : goal.instruction_text-base_text-b-requires
+instruction_text-base_text-b-requires t c =
+    let k₁ = c in
+    let k₂ = k₁.before.before.before.before in
+    let k₃ = k₂.before.before in
+    let k₄ = k₃.before.before.before.before.before in
+    let o = jump_operands k₄.requires.1.0 k₄.requires.1.1 _ k₃.instruction_at.ensures _ _ k₂.e4.given.1 in
+    let h = k₄.requires.0 in
+    (omega arith, (search (write_next, k₁.append4.ensures), omega arith))
+
+pub instruction_text-base_text-requires-in-Jump : goal.instruction_text-base_text-requires-in-Jump
+instruction_text-base_text-requires-in-Jump t c =
+    let k₁ = c in
+    let k₂ = k₁.before.before.before.before in
+    let k₃ = k₂.before.before.before.before in
+    let k₄ = k₃.before.before in
+    let k₅ = k₄.before.before.before.before.before in
+    let o = jump_operands k₅.requires.1.0 k₅.requires.1.1 _ k₄.instruction_at.ensures _ _ k₃.e4.given.1 in
+    let h = k₅.requires.0 in
+    (omega arith, (search (write_second, k₂.append4.ensures, k₁.base-text2.ensures), omega arith))
+
+pub instruction_text-base_text-b-requires-in-Ifeq : goal.instruction_text-base_text-b-requires-in-Ifeq
+instruction_text-base_text-b-requires-in-Ifeq t c = (search ifeq_first_falls, (search (write_next, c.append-a-in-Ifeq.ensures), search ifeq_first))
+
+pub instruction_text-base_text-c-requires : goal.instruction_text-base_text-c-requires
+instruction_text-base_text-c-requires t c = (search ifeq_second_falls, (search (write_second, c.append-a-in-Ifeq.ensures, c.base_text-b-in-Ifeq.ensures), search ifeq_second))
+
+pub instruction_text-base_text-requires-in-Ifeq : goal.instruction_text-base_text-requires-in-Ifeq
+instruction_text-base_text-requires-in-Ifeq t c =
+    let k₁ = c in
+    let k₂ = k₁.before.before.before.before in
+    let k₃ = k₂.before.before.before.before in
+    let k₄ = k₃.before.before.before.before in
+    let k₅ = k₄.before.before in
+    let k₆ = k₅.before.before.before.before.before in
+    (ifeq_third_falls k₆.requires.1.0 k₆.requires.1.1 _ k₅.instruction_at.ensures _ _ _ k₄.e5.given.1 _ k₆.requires.0, (write_third k₆.requires.1.0 k₃.append5.ensures k₂.base-text4.ensures k₁.base-text5.ensures, ifeq_third k₆.requires.1.0 k₆.requires.1.1 _ k₅.instruction_at.ensures _ _ _ k₄.e5.given.1))
+
+pub instruction_text-returns-in-AssignSelf : goal.instruction_text-returns-in-AssignSelf
+instruction_text-returns-in-AssignSelf t c = search instruction_self
+
+pub instruction_text-returns-in-AssignProgram : goal.instruction_text-returns-in-AssignProgram
+instruction_text-returns-in-AssignProgram t c = search instruction_program
+
+pub instruction_text-returns-in-Show : goal.instruction_text-returns-in-Show
+instruction_text-returns-in-Show t c = search instruction_show
+
+pub instruction_text-returns-in-Jump : goal.instruction_text-returns-in-Jump
+instruction_text-returns-in-Jump t c = search instruction_jump
+
+pub instruction_text-returns-in-Ifeq : goal.instruction_text-returns-in-Ifeq
+instruction_text-returns-in-Ifeq t c =
+    let k₁ = c in
+    let k₂ = k₁.before.before.before.before in
+    let k₃ = k₂.before.before.before.before in
+    let k₄ = k₃.before.before.before.before in
+    let k₅ = k₄.before.before.before.before in
+    let k₆ = k₅.before.before in
+    let k₇ = k₆.before.before.before.before.before in
+    instruction_ifeq k₇.requires.1.0 k₇.requires.1.1 _ k₆.instruction_at.ensures _ _ _ k₅.e5.given.1 _ k₄.append5.ensures k₃.base-text4.ensures k₂.base-text5.ensures k₁.base-text6.ensures
+
+pub instruction_text-returns-in-Bad : goal.instruction_text-returns-in-Bad
+instruction_text-returns-in-Bad t c = absurd (search instruction_formed)
+
+pub slots_text-loop-z-init : goal.slots_text-loop-z-init
+slots_text-loop-z-init t c = search slots_start
+
+pub slots_text-shape_of-m-then-limit-b : goal.slots_text-shape_of-m-then-limit-b
+slots_text-shape_of-m-then-limit-b t c = search slots_size
+
+pub slots_text-returns-then-limit-b : goal.slots_text-returns-then-limit-b
+slots_text-returns-then-limit-b t c = search slots_past
+
+pub slots_text-slot_head-a-requires : goal.slots_text-slot_head-a-requires
+slots_text-slot_head-a-requires t c = (search slot_named, search slots_can)
+
+pub slots_text-expression_text-b-requires : goal.slots_text-expression_text-b-requires
+slots_text-expression_text-b-requires t c = (search slot_falls, (search (slot_can, c.slot_head-a.ensures), search slot_there))
+
+pub slots_text-loop-z-smaller : goal.slots_text-loop-z-smaller
+slots_text-loop-z-smaller t c = search slots_less
+
+pub slots_text-loop-z-preserved : goal.slots_text-loop-z-preserved
+slots_text-loop-z-preserved t c = search slots_in_code
+
+pub slots_text-shape_of-m : goal.slots_text-shape_of-m
+slots_text-shape_of-m t c = search slots_size
+
+pub slots_text-returns : goal.slots_text-returns
+slots_text-returns t c = search slots_end
