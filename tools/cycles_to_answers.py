@@ -12,7 +12,7 @@ import re
 import sys
 
 sys.path.insert(0, os.path.dirname(os.path.realpath(__file__)))
-from to_answers import NAME, TOKEN, TRIVIAL, Fn, blocks, clause_names, find, keep_imports, plain
+from to_answers import NAME, TOKEN, TRIVIAL, Fn, blocks, clause_names, find, keep_imports, plain, split_args
 
 CYCLES = {
     "check_expression_check_slots": "check",
@@ -62,7 +62,7 @@ def main(argv):
                 if code.startswith("use "):
                     imports += [l for l in lines if l.startswith("use ") and not re.search(r"\.(Reads|Kinds|Tie|Lts-\S+) |borrow\.Fn\.|\{statement\}|Tie\.\{close\}", l + " ")]
                     continue
-                if SCAFFOLD.match(code) or re.search(r": \{M : Type 1\} → statement M", code):
+                if SCAFFOLD.match(code) or re.search(r":\s+\{M : Type 1\} → statement M", code) or code.strip() == "}":
                     continue
                 ls = code.split("\n")
                 unf = "".join(l + "\n" for l in ls if l.startswith("unfolding "))
@@ -132,6 +132,32 @@ def main(argv):
                     out.append(f"pub {name} : goal.{name}\n{unf}{name} t {mm[1]} ={body.rstrip()}")
                     continue
                 helpers.append("\n".join(lines).rstrip())
+            # goals that stand in the spec itself
+            for m in re.finditer(r"λ t\. (\S+)\.spec\s", text):
+                if m[1] not in alias:
+                    continue
+                i, depth = m.end(), 1
+                while i < len(text) and depth:
+                    depth += {"(": 1, ")": -1}.get(text[i], 0)
+                    i += 1
+                f = alias[m[1]]
+                fn, d = fns[f]
+                args = split_args(text[m.end() : i - 1 if depth == 0 else i])[3 + 2 * len(d["loops"]) :]
+                if len(args) != len(d["needs"]):
+                    looks.append(f"{f}: {len(args)} arguments, {len(d['needs'])} goals")
+                    continue
+                for a, (o, n), at in zip(args, d["needs"], d["asked_at"]):
+                    mm = re.match(r"\(λ (\S+?)(?: κs)?\. (.*)\)$", a)
+                    if not mm or mm[2].strip() in TRIVIAL:
+                        continue
+                    name = d["stem"] + n
+                    if name in used:
+                        continue
+                    used.add(name)
+                    body = fn.turn_body(at[0], " " + mm[2], mm[1])
+                    if "κs" in body or ".branch" in body:
+                        looks.append(name + " has κs or branch")
+                    out.append(f"pub {name} : goal.{name}\n{name} t {mm[1]} ={body.rstrip()}")
             for f, (fn, d) in fns.items():
                 looks += [f"{f}: {l}" for l in fn.looks]
             for l in looks:

@@ -8,7 +8,7 @@ use Rattle.heap.proofs.value_of.Goals as goal
 
 pub returns-then-tag-eq0 : goal.returns-then-tag-eq0
 unfolding value_of
-returns-then-tag-eq0 c = simp (eq-eqb _ _ c.if-tag-eq0.true) (ap Value.Int (to_z-of_z w32 c.int_of.result (record { sfits = c.int_of.type-inv }) ∙ c.int_of.ensures))
+returns-then-tag-eq0 c = simp (eq-eqb _ _ c.if-tag-eq0.true) (ap Value.Int (to_z-of_z w32 c.int_of.result (record { sfits = c.int_of.type_inv }) ∙ c.int_of.ensures))
 
 pub returns-then-tag-eq1 : goal.returns-then-tag-eq1
 unfolding value_of

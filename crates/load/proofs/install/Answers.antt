@@ -7,11 +7,6 @@ emit-requires c = (search rules, (search rules, (search rules, (search rules, se
 
 pub start-requires : goal.start-requires
 start-requires c =
-    let texts = c in
-    let words = texts.before.before.before.before in
-    let program = words.before.before.before.before.before.before in
-    let begin = program.before.before.before.before.before.before.before.before.before.before.before in
-    install_can_start _ _ _ _ _ _ _ begin.requires.1.1 _ _ _ _ program.emit.ensures words.clear-words.ensures texts.clear-bytes.ensures
-
+                    install_can_start _ _ _ _ _ _ _ c.requires.kept.1 _ _ _ _ c.emit.ensures c.clear_words.ensures c.clear_bytes.ensures
 pub returns : goal.returns
 returns c = search (install_done, c.requires.kept.1)

@@ -8,5 +8,4 @@ returns-then-r-eq6 c = search number_tested
 pub returns : goal.returns
 unfolding word
 returns c =
-    let k = c in
-    quick_says _ _ _ k.shared-slice-known2.given k.before.shared-slice-known.given _ c.quick-r.ensures c.if-r-eq6.false
+        quick_says _ _ _ c.shared_slice_known-2-1.given c.shared_slice_known-1.given _ c.quick-r.ensures c.if-r-eq6.false

@@ -20,31 +20,19 @@ returns-then-h-a-ne1 c = search walked_free
 pub returns-then-c-gt16 : goal.returns-then-c-gt16
 unfolding word
 returns-then-c-gt16 c =
-    let g = c in
-    let l = g.before.before.before.before in
-    walked_many _ _ _ _ _ _ _ _ l.loop.invariant g.before.before.before.loop-test.true g.before.before.if1.false g.before.if2.false _ g.wide.ensures
+            walked_many _ _ _ _ _ _ _ _ c.loop-i.invariant c.loop-i-test.true c.if-tag-lt4.false c.if-f-ge256.false _ c.wide.ensures
     c.if-h-a-ne1.false c.if-c-gt16.true
-
 pub returns-then-k-eq0 : goal.returns-then-k-eq0
 unfolding word
 returns-then-k-eq0 c =
-    let d = c in
-    let g = d.before.before.before.before.before in
-    let l = g.before.before.before.before in
-    walked_missing _ _ _ _ _ _ _ _ l.loop.invariant g.before.before.before.loop-test.true g.before.before.if1.false g.before.if2.false _ g.wide.ensures
-    d.before.before.before.if3.false d.before.if4.false l.before.before.before.before.before.requires.names_start _ _ d.wide2.ensures c.slot_place-k.ensures c.if-k-eq0.true
-
+                walked_missing _ _ _ _ _ _ _ _ c.loop-i.invariant c.loop-i-test.true c.if-tag-lt4.false c.if-f-ge256.false _ c.wide.ensures
+    c.if-h-a-ne1.false c.if-c-gt16.false c.requires.names_start _ _ c.wide-in-loop-i.ensures c.slot_place-k.ensures c.if-k-eq0.true
 pub loop-i-preserved : goal.loop-i-preserved
 unfolding word
 loop-i-preserved c =
-    let r = c in
-    let d = r.before.before in
-    let g = d.before.before.before.before.before in
-    let l = g.before.before.before.before in
-    along_again _ _ _ _ _ _ _ _ l.loop.invariant g.before.before.before.loop-test.true g.before.before.if1.false g.before.if2.false _ g.wide.ensures
-    d.before.before.before.if3.false d.before.if4.false l.before.before.before.before.before.requires.names_start _ _ d.wide2.ensures r.slot_place.ensures c.if-k-eq0.false
-    (c.shared_slice_known-in-loop-i-5-1.given (r.slot_place.result + 2))
-
+                    along_again _ _ _ _ _ _ _ _ c.loop-i.invariant c.loop-i-test.true c.if-tag-lt4.false c.if-f-ge256.false _ c.wide.ensures
+    c.if-h-a-ne1.false c.if-c-gt16.false c.requires.names_start _ _ c.wide-in-loop-i.ensures c.slot_place-k.ensures c.if-k-eq0.false
+    (c.shared_slice_known-in-loop-i-5-1.given (c.slot_place-k.result + 2))
 pub returns-then-tag-gt4 : goal.returns-then-tag-gt4
 returns-then-tag-gt4 c = search walked_high
 

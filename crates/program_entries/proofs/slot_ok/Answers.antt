@@ -4,21 +4,18 @@ use Rattle.program_entries.proofs.slot_ok.Goals as goal
 pub returns : goal.returns
 unfolding slot_ok
 returns c =
-    let d = c in
-    let e = d.before.before.before.before in
-    let h = e.before.before.before.before in
-    rw (
+                rw (
       c.other_names.ensures,
       c.follow_slot.ensures,
       c.slot_name-2.ensures,
       c.number-4.ensures,
-      d.link_ok.ensures,
-      d.before.slot_link.ensures,
-      d.before.before.number3.ensures,
-      d.before.before.before.number2.ensures,
-      e.expressions2.ensures,
-      e.before.names.ensures,
-      e.before.before.slot_name.ensures,
-      e.before.before.before.number.ensures,
-      h.expressions.ensures,
+      c.link_ok.ensures,
+      c.slot_link.ensures,
+      c.number-3.ensures,
+      c.number-2.ensures,
+      c.expressions-2.ensures,
+      c.names.ensures,
+      c.slot_name.ensures,
+      c.number.ensures,
+      c.expressions.ensures,
     )

@@ -4,12 +4,11 @@ use Rattle.program_entries.proofs.tables_ok.Goals as goal
 pub returns : goal.returns
 unfolding tables_ok
 returns c =
-    let d = c in
-    rw (
+        rw (
       c.slots_ok.ensures,
       c.program_slots.ensures,
       c.codes_ok.ensures,
       c.instructions_ok.ensures,
-      d.expressions_ok.ensures,
-      d.before.texts_ok.ensures,
+      c.expressions_ok.ensures,
+      c.texts_ok.ensures,
     )

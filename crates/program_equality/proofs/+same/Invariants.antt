@@ -32,7 +32,7 @@ abbrev pub decreases-same_list-loop-a : goal.decreases-same_list-loop-a
 decreases-same_list-loop-a l = code_weight (remaining l.p l.a)
 
 abbrev pub invariant-same_slots-loop-y : goal.invariant-same_slots-loop-y
-invariant-same_slots-loop-y l = SlotsLeft l.p l.l l.from l.to a b
+invariant-same_slots-loop-y l = SlotsLeft l.p l.l l.from l.to l.y l.z
 
 abbrev pub decreases-same_slots-loop-y : goal.decreases-same_slots-loop-y
-decreases-same_slots-loop-y l = slots_weight (slots_held l.p a)
+decreases-same_slots-loop-y l = slots_weight (slots_held l.p l.y)

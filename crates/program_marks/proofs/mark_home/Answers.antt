@@ -4,5 +4,4 @@ use Rattle.program_marks.proofs.mark_home.Goals as goal
 pub returns : goal.returns
 unfolding mark_home
 returns c =
-    let d = c in
-    rw (c.set_word.ensures, c.wide.ensures, d.home_of.ensures)
+        rw (c.set_word.ensures, c.wide.ensures, c.home_of-v.ensures)

@@ -4,11 +4,10 @@ use Rattle.program_marks.proofs.mark_next.Goals as goal
 pub returns : goal.returns
 unfolding mark_next
 returns c =
-    let d = c in
-    rw (
+        rw (
       c.set_word.ensures,
       c.wide-2.ensures,
-      d.instruction_after.ensures,
-      d.before.before.word.ensures,
-      d.before.before.before.wide.ensures,
+      c.instruction_after.ensures,
+      c.word-v.ensures,
+      c.wide.ensures,
     )

@@ -4,12 +4,11 @@ use Rattle.program_tests.proofs.code_marked.Goals as goal
 pub returns : goal.returns
 unfolding code_marked_as
 returns c =
-    let d = c in
-    rw (
+        rw (
       c.word-2.ensures,
       c.wide-2.ensures,
       c.word.ensures,
       c.wide.ensures,
-      d.code-first2.ensures,
-      d.before.code_first.ensures,
+      c.code_first-2.ensures,
+      c.code_first.ensures,
     )

@@ -10,11 +10,9 @@ returns-then-n-eq5 c = search number_second
 
 pub join_values-requires : goal.join_values-requires
 join_values-requires c =
-    let second = c in
-    let first = second.before.before.before.before in
-    let x = first.before.before.before.before in (
-      number_on _ _ _ _ _ x.before.before.before.before.before.requires.0 _ x.instruction_c.ensures _ first.before.before.expression_a.ensures
-          _ first.before.operand-number.ensures first.if1.false _ second.before.before.expression_b.ensures _ second.before.operand-number2.ensures
-          second.if2.false _ _ c.value-v.ensures c.value-w.ensures,
+            (
+      number_on _ _ _ _ _ c.requires.can_assign_join _ c.instruction_c-x.ensures _ c.expression_a.ensures
+          _ c.operand_number-m.ensures c.if-m-eq5.false _ c.expression_b.ensures _ c.operand_number-n.ensures
+          c.if-n-eq5.false _ _ c.value-v.ensures c.value-w.ensures,
       search rules,
     )

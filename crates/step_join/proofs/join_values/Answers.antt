@@ -12,7 +12,7 @@ slice_bounds-put_join-end c = front_size _ _ (omega arith) (search rules)
 
 pub put_join-requires : goal.put_join-requires
 put_join-requires c =
-    let filled = c in (
-      can_put _ _ _ _ _ _ _ (search rules) _ filled.fill-join.ensures.1 (omega arith) _ _ (search rules) filled.fill-join.ensures.0,
+    (
+      can_put _ _ _ _ _ _ _ (search rules) _ c.fill_join-n.ensures.size (omega arith) _ _ (search rules) c.fill_join-n.ensures.bytes,
       search rules,
     )

@@ -4,21 +4,17 @@ use Rattle.table_updates.proofs.set_instruction.Goals as goal
 pub returns : goal.returns
 unfolding set_instruction
 returns c =
-    let d = c in
-    let e = d.before.before.before.before in
-    let h = e.before.before.before.before.before.before in
-    let k = h.before.before.before.before.before.before in
-    rw (
+                    rw (
       c.set_word-4.ensures,
       c.instruction_c_of.ensures,
-      d.wide4.ensures,
-      e.set-word3.ensures,
-      e.before.instruction_b_of.ensures,
-      e.before.before.wide3.ensures,
-      h.set-word2.ensures,
-      h.before.instruction_a_of.ensures,
-      h.before.before.wide2.ensures,
-      k.set_word.ensures,
-      k.before.instruction_kind_of.ensures,
-      k.before.before.wide.ensures,
+      c.wide-4.ensures,
+      c.set_word-3.ensures,
+      c.instruction_b_of.ensures,
+      c.wide-3.ensures,
+      c.set_word-2.ensures,
+      c.instruction_a_of.ensures,
+      c.wide-2.ensures,
+      c.set_word.ensures,
+      c.instruction_kind_of.ensures,
+      c.wide.ensures,
     )

@@ -8,11 +8,10 @@ returns-then-k-p c = search instruction_read
 pub returns : goal.returns
 unfolding instruction_at
 returns c =
-    let d = c in
-    rw (
+        rw (
       c.instruction_of-2.ensures,
       c.instruction_c.ensures,
       c.instruction_b.ensures,
       c.instruction_a.ensures,
-      d.instruction_kind.ensures,
+      c.instruction_kind.ensures,
     )

@@ -179,11 +179,7 @@ base_text-code_text-b-requires t c = (search code_falls, (search write_next, sea
 
 pub base_text-append-requires : goal.base_text-append-requires
 base_text-append-requires t c =
-    let k₁ = c in
-    let k₂ = k₁.before.before.before.before.before in
-    let k₃ = k₂.before.before.before.before.before.before.before.before.before.before.before.before in
-    can_second k₃.requires.1.0 k₂.append.ensures k₁.code_text.ensures
-
+                can_second c.requires.x_bound.0 c.append-a.ensures c.code_text-b.ensures
 pub base_text-returns-in-Integer : goal.base_text-returns-in-Integer
 base_text-returns-in-Integer t c = search base_integer
 
@@ -234,11 +230,7 @@ expression_text-slots_text-b-requires t c = (search frame_falls, (search write_n
 
 pub expression_text-append-requires : goal.expression_text-append-requires
 expression_text-append-requires t c =
-    let k₁ = c in
-    let k₂ = k₁.before.before.before.before.before in
-    let k₃ = k₂.before.before.before.before.before.before.before.before.before.before.before in
-    can_second k₃.requires.1.0 k₂.append.ensures k₁.slots_text.ensures
-
+                can_second c.requires.x_bound.0 c.append-a.ensures c.slots_text-b.ensures
 pub expression_text-base_text-requires : goal.expression_text-base_text-requires
 expression_text-base_text-requires t c = (search not_falls, (search write_next, search not_there))
 
@@ -289,25 +281,14 @@ instruction_text-base_text-requires t c = (search show_falls, (search (write_nex
 
 pub instruction_text-base_text-b-requires : goal.instruction_text-base_text-b-requires
 instruction_text-base_text-b-requires t c =
-    let k₁ = c in
-    let k₂ = k₁.before.before.before.before in
-    let k₃ = k₂.before.before in
-    let k₄ = k₃.before.before.before.before.before in
-    let o = jump_operands k₄.requires.1.0 k₄.requires.1.1 _ k₃.instruction_at.ensures _ _ k₂.e4.given.1 in
-    let h = k₄.requires.0 in
-    (omega arith, (search (write_next, k₁.append4.ensures), omega arith))
-
+                    let o = jump_operands c.requires.i_bound.0 c.requires.i_bound.1 _ c.instruction_at-e.ensures _ _ c.in-Jump.is in
+    let h = c.requires.can_write in
+    (omega arith, (search (write_next, c.append-a-in-Jump.ensures), omega arith))
 pub instruction_text-base_text-requires-in-Jump : goal.instruction_text-base_text-requires-in-Jump
 instruction_text-base_text-requires-in-Jump t c =
-    let k₁ = c in
-    let k₂ = k₁.before.before.before.before in
-    let k₃ = k₂.before.before.before.before in
-    let k₄ = k₃.before.before in
-    let k₅ = k₄.before.before.before.before.before in
-    let o = jump_operands k₅.requires.1.0 k₅.requires.1.1 _ k₄.instruction_at.ensures _ _ k₃.e4.given.1 in
-    let h = k₅.requires.0 in
-    (omega arith, (search (write_second, k₂.append4.ensures, k₁.base-text2.ensures), omega arith))
-
+                        let o = jump_operands c.requires.i_bound.0 c.requires.i_bound.1 _ c.instruction_at-e.ensures _ _ c.in-Jump.is in
+    let h = c.requires.can_write in
+    (omega arith, (search (write_second, c.append-a-in-Jump.ensures, c.base_text-b.ensures), omega arith))
 pub instruction_text-base_text-b-requires-in-Ifeq : goal.instruction_text-base_text-b-requires-in-Ifeq
 instruction_text-base_text-b-requires-in-Ifeq t c = (search ifeq_first_falls, (search (write_next, c.append-a-in-Ifeq.ensures), search ifeq_first))
 
@@ -316,14 +297,7 @@ instruction_text-base_text-c-requires t c = (search ifeq_second_falls, (search (
 
 pub instruction_text-base_text-requires-in-Ifeq : goal.instruction_text-base_text-requires-in-Ifeq
 instruction_text-base_text-requires-in-Ifeq t c =
-    let k₁ = c in
-    let k₂ = k₁.before.before.before.before in
-    let k₃ = k₂.before.before.before.before in
-    let k₄ = k₃.before.before.before.before in
-    let k₅ = k₄.before.before in
-    let k₆ = k₅.before.before.before.before.before in
-    (ifeq_third_falls k₆.requires.1.0 k₆.requires.1.1 _ k₅.instruction_at.ensures _ _ _ k₄.e5.given.1 _ k₆.requires.0, (write_third k₆.requires.1.0 k₃.append5.ensures k₂.base-text4.ensures k₁.base-text5.ensures, ifeq_third k₆.requires.1.0 k₆.requires.1.1 _ k₅.instruction_at.ensures _ _ _ k₄.e5.given.1))
-
+                            (ifeq_third_falls c.requires.i_bound.0 c.requires.i_bound.1 _ c.instruction_at-e.ensures _ _ _ c.in-Ifeq.is _ c.requires.can_write, (write_third c.requires.i_bound.0 c.append-a-in-Ifeq.ensures c.base_text-b-in-Ifeq.ensures c.base_text-c.ensures, ifeq_third c.requires.i_bound.0 c.requires.i_bound.1 _ c.instruction_at-e.ensures _ _ _ c.in-Ifeq.is))
 pub instruction_text-returns-in-AssignSelf : goal.instruction_text-returns-in-AssignSelf
 instruction_text-returns-in-AssignSelf t c = search instruction_self
 
@@ -338,15 +312,7 @@ instruction_text-returns-in-Jump t c = search instruction_jump
 
 pub instruction_text-returns-in-Ifeq : goal.instruction_text-returns-in-Ifeq
 instruction_text-returns-in-Ifeq t c =
-    let k₁ = c in
-    let k₂ = k₁.before.before.before.before in
-    let k₃ = k₂.before.before.before.before in
-    let k₄ = k₃.before.before.before.before in
-    let k₅ = k₄.before.before.before.before in
-    let k₆ = k₅.before.before in
-    let k₇ = k₆.before.before.before.before.before in
-    instruction_ifeq k₇.requires.1.0 k₇.requires.1.1 _ k₆.instruction_at.ensures _ _ _ k₅.e5.given.1 _ k₄.append5.ensures k₃.base-text4.ensures k₂.base-text5.ensures k₁.base-text6.ensures
-
+                                instruction_ifeq c.requires.i_bound.0 c.requires.i_bound.1 _ c.instruction_at-e.ensures _ _ _ c.in-Ifeq.is _ c.append-a-in-Ifeq.ensures c.base_text-b-in-Ifeq.ensures c.base_text-c.ensures c.base_text-in-Ifeq.ensures
 pub instruction_text-returns-in-Bad : goal.instruction_text-returns-in-Bad
 instruction_text-returns-in-Bad t c = absurd (search instruction_formed)
 

@@ -54,12 +54,7 @@ outside_text-bounds-g-depth t c = search outside_inside
 
 pub outside_text-frame_text-b-requires : goal.outside_text-frame_text-b-requires
 outside_text-frame_text-b-requires t c =
-    let k₁ = c in
-    let k₂ = k₁.before.before.before.before in
-    let k₃ = k₂.before.before in
-    let k₄ = k₃.before.before.before.before.before in
-    (search frame_falls, (write_next k₄.requires.1.0 k₁.append.ensures, outside_inner k₄.requires.1.0 k₄.requires.1.1 _ k₃.expression_at.ensures _ _ k₂.d.given.1 c.link.ensures _ _ (omega arith)))
-
+                    (search frame_falls, (write_next c.requires.outside_slot.0 c.append-a.ensures, outside_inner c.requires.outside_slot.0 c.requires.outside_slot.1 _ c.expression_at.ensures _ _ c.in-Frame.is c.link.ensures _ _ (omega arith)))
 pub outside_text-append-requires : goal.outside_text-append-requires
 outside_text-append-requires t c = search (can_second, c.append-a.ensures, c.frame_text-b.ensures.appended)
 
@@ -68,12 +63,4 @@ outside_text-shape_of-g t c = c.frame_text-b.auto.1.1.0 ∙ simp length-set
 
 pub outside_text-returns : goal.outside_text-returns
 outside_text-returns t c =
-    let k₁ = c in
-    let k₂ = k₁.before.before.before.before.before.before.before in
-    let k₃ = k₂.before in
-    let k₄ = k₃.before.before.before in
-    let k₅ = k₄.before.before.before in
-    let k₆ = k₅.before.before.before.before in
-    let k₇ = k₆.before.before in
-    let k₈ = k₇.before.before.before.before.before in
-    outside_frame k₈.requires.1.0 k₈.requires.1.1 _ k₇.expression_at.ensures _ _ k₆.d.given.1 k₃.link.ensures _ k₄.slot_name.ensures k₅.append.ensures k₂.frame-text.ensures k₁.append2.ensures
+                                    outside_frame c.requires.outside_slot.0 c.requires.outside_slot.1 _ c.expression_at.ensures _ _ c.in-Frame.is c.link.ensures _ c.slot_name.ensures c.append-a.ensures c.frame_text-b.ensures c.append.ensures

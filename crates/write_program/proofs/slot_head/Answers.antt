@@ -7,10 +7,6 @@ append_name-b-requires c = (search head_name, search can_append)
 
 pub append-requires : goal.append-requires
 append-requires c =
-    let k₁ = c in
-    let k₂ = k₁.before.before.before.before.before in
-    let k₃ = k₂.before.before.before.before in
-    search (can_append, k₁.append-name.ensures, can_append k₃.requires.1 k₂.slot-lead.ensures)
-
+                search (can_append, c.append_name-b.ensures, can_append c.requires.can_append c.slot_lead-a.ensures)
 pub returns : goal.returns
 returns c = search head_appended

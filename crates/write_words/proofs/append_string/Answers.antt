@@ -10,8 +10,6 @@ append-b-requires c = search can_append
 
 pub append-requires : goal.append-requires
 append-requires c =
-    let after = c in
-    can_append (append-requires-2 after.before κs) after.append2.ensures
-
+        can_append (append-requires-2 c κs) c.append-b.ensures
 pub returns : goal.returns
 returns c = search string_appended

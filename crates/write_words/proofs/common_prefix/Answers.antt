@@ -14,15 +14,9 @@ overflow_add-j c = search (path_fits, rules)
 
 pub returns-then-holding-k-2 : goal.returns-then-holding-k-2
 returns-then-holding-k-2 c =
-    let inside = c in
-    let turn = inside.before.before in
-    search (comparing_apart, turn.before.loop.invariant, turn.loop-test.true, inside.before.wide.ensures, inside.if1.false, c.path_name.ensures, c.if-holding-k-2.true)
-
+            search (comparing_apart, c.loop-i.invariant, c.loop-i-test.true, c.wide-k.ensures, c.if-holding-k.false, c.path_name.ensures, c.if-holding-k-2.true)
 pub loop-i-preserved : goal.loop-i-preserved
 loop-i-preserved c =
-    let inside = c in
-    let turn = inside.before.before in
-    search (comparing_again, turn.before.loop.invariant, turn.loop-test.true, inside.before.wide.ensures, inside.if1.false, c.path_name.ensures, c.if-holding-k-2.false)
-
+            search (comparing_again, c.loop-i.invariant, c.loop-i-test.true, c.wide-k.ensures, c.if-holding-k.false, c.path_name.ensures, c.if-holding-k-2.false)
 pub returns : goal.returns
 returns c = search comparing_done
