@@ -1,233 +1,217 @@
 use mathlib.Core.Logic.{⊎_elim}
 use native.Mathlib.Omega.{arith}
 use borrow.Author.Rules.{rules}
-use Prim.Native.Nat.{◌+◌, ◌-◌}
+use Prim.Native.Nat.{◌-◌}
 use Rattle.emit_tree.proofs.Bases.{operand_falls, right_falls, binary_falls, binary_falls_2, first_falls, second_falls, third_falls, seen_expression, seen_instruction, operand_done, right_done, block_none, block_falls, block_done, base_block, base_path, base_integer, base_string, negation_done, binary_done, frame_none, frame_falls, frame_done, expression_frame, expression_not, expression_outside, expression_binary, expression_base}
 use Rattle.emit_tree.proofs.Lists.{slot_falls, slot_done, slots_start, slots_end, slots_other, slots_none, slots_again, show_done, jump_done, ifeq_done, assign_done, instruction_show, instruction_jump, instruction_ifeq, instruction_assign, line_falls, line_done, lines_start, lines_end, lines_none, lines_stuck, lines_again}
 use Rattle.emit_tree.proofs.+tree.Goals as goal
 
-}
+pub assigning-right-requires : goal.assigning-right-requires
+assigning-right-requires t c = (omega arith, c.requires.1.0)
 
-}
+pub assigning-returns : goal.assigning-returns
+assigning-returns t c = search assign_done
 
-pub +assigning-base-binary-block-branching-expression-frame-instruction-instructions-jumping-line-negation-operand-right-showing-slot-slots-spec :
-    {M : Type 1} → statement M
-+assigning-base-binary-block-branching-expression-frame-instruction-instructions-jumping-line-negation-operand-right-showing-slot-slots-spec =
-    close
-    μ_assigning
-    μ_base
-    μ_binary
-    μ_block
-    μ_branching
-    μ_expression
-    μ_frame
-    μ_instruction
-    μ_instructions
-    μ_jumping
-    μ_line
-    μ_negation
-    μ_operand
-    μ_right
-    μ_showing
-    μ_slot
-    μ_slots
-    (λ t. assigning-lts.spec
-    (assign-target-reads.Asked, assign-target-reads.Learnt, right_below t, right.Post)
-    (assigning_at t)
-    assigning.Post
-    (λ c κs. search rules)
-    (λ c κs. (omega arith, c.before.before.before.before.before.before.before.before.before.requires.1.0))
-    (λ c. search rules)
-    (λ c. search assign_done))
-    (λ t. base-lts.spec
-    (block_below t, block.Post, path-base-reads.Asked, path-base-reads.Learnt, integer-reads.Asked, integer-reads.Learnt, string-reads.Asked, string-reads.Learnt)
-    (base_at t)
-    base.Post
-    (λ c κs. (omega arith, search rules))
-    (λ c. search rules)
-    (λ c. search base_block)
-    (λ c κs. search rules)
-    (λ c. search rules)
-    (λ c. search base_path)
-    (λ c κs. search rules)
-    (λ c. search rules)
-    (λ c. search base_integer)
-    (λ c κs. search rules)
-    (λ c. search rules)
-    (λ c. search base_string))
-    (λ t. binary-lts.spec
-    (one-expression-reads.Asked, one-expression-reads.Learnt, base_below t, base.Post, operator-reads.Asked, operator-reads.Learnt, operand_below t, operand.Post)
-    (binary_at t)
-    binary.Post
-    (λ c κs. search rules)
-    (λ c κs. (search binary_falls, (c.before.before.before.before.before.before.requires.1.0, search seen_expression)))
-    (λ c κs. c.before.before.before.before.before.before.before.before.before.before.requires.1.0.cached)
-    (λ c κs. (search binary_falls_2, c.before.before.before.before.before.before.before.before.before.before.before.before.before.before.requires.1.0))
-    (λ c. search rules)
-    (λ c. search binary_done))
-    (λ t. block-lts.spec
-    (open-block-reads.Asked, open-block-reads.Learnt, within-code-reads.Asked, within-code-reads.Learnt, instructions_below t, instructions.Post, skip-reads.Asked, skip-reads.Learnt)
-    (block_at t)
-    block.Post
-    (λ c κs. search rules)
-    (λ c. search rules)
-    (λ c. search block_none)
-    (λ c κs. search rules)
-    (λ c κs. (search block_falls, (c.before.before.before.before.before.before.before.before.before.before.before.before.before.before.before.requires.1.0, search rules)))
-    (λ c κs. c.before.before.before.before.before.before.before.before.before.before.before.before.before.before.before.before.before.before.requires.1.0.cached)
-    (λ c. search rules)
-    (λ c. block_done _ _ _ _ _ _ _ _ c.before.before.before.before.before.before.before.before.before.before.before.before.before.open_block.ensures.done _ c.before.before.before.before.before.before.within_code.ensures _ _ c.before.before.before.instructions.ensures _ c.skip.ensures))
-    (λ t. branching-lts.spec
-    (go-to-reads.Asked, go-to-reads.Learnt, operand_below t, operand.Post, set-instruction-reads.Asked, set-instruction-reads.Learnt)
-    (branching_at t)
-    branching.Post
-    (λ c κs. search rules)
-    (λ c κs. (search first_falls, c.before.before.before.before.before.before.requires.1.0))
-    (λ c κs. (search second_falls, c.before.before.before.before.before.before.before.before.before.before.requires.1.0))
-    (λ c κs. search rules)
-    (λ c κs. (third_falls _ _ _ c.before.before.before.before.before.before.before.before.before.before.before.before.before.before.before.before.before.before.requires.1.1 _ c.before.before.before.before.before.before.before.before.before.before.before.before.before.go_to.ensures _ _ c.before.before.before.before.before.before.before.before.before.before.before.operand.ensures.on c.before.before.before.before.before.before.before.operand2.ensures.on _ c.before.before.before.before.before.before.before.before.before.before.before.before.before.before.before.before.before.before.requires.0, c.before.before.before.before.before.before.before.before.before.before.before.before.before.before.before.before.before.before.requires.1.0))
-    (λ c. search rules)
-    (λ c. ifeq_done _ _ _ _ _ _ _ c.before.before.before.before.before.before.before.before.before.before.before.before.before.before.before.before.before.before.before.before.before.requires.1.1 _ c.before.before.before.before.before.before.before.before.before.before.before.before.before.before.before.before.go_to.ensures _ _ c.before.before.before.before.before.before.before.before.before.before.before.before.before.before.operand.ensures _ _ c.before.before.before.before.before.before.before.before.before.before.operand2.ensures _ c.before.before.before.before.before.before.set_instruction.ensures _ _ c.before.before.operand3.ensures))
-    (λ t. expression-lts.spec
-    (frame_below t, frame.Post, negation_below t, negation.Post, operator-after-reads.Asked, operator-after-reads.Learnt, binary_below t, binary.Post, base_below t, base.Post)
-    (expression_at t)
-    expression.Post
-    (λ c κs. (omega arith, search rules))
-    (λ c. search rules)
-    (λ c. search expression_frame)
-    (λ c κs. (omega arith, search rules))
-    (λ c. search rules)
-    (λ c. search expression_not)
-    (λ c κs. search rules)
-    (λ c κs. (omega arith, search rules))
-    (λ c. search rules)
-    (λ c. search (expression_binary, c.before.before.before.before.before.before.before.before.before.before.before.before.before.before.before.requires.1.1))
-    (λ c κs. (omega arith, search rules))
-    (λ c. search rules)
-    (λ c. ⊎_elim (λ w. search (expression_base, c.before.before.before.before.before.before.before.before.before.before.before.before.before.requires.1.1)) (λ w. search (expression_outside, c.before.before.before.before.before.before.before.before.before.before.before.before.before.requires.1.1)) c.before.before.before.before.if3.branch))
-    (λ t. frame-lts.spec
-    (open-frame-reads.Asked, open-frame-reads.Learnt, slots_below t, slots.Post, skip-reads.Asked, skip-reads.Learnt)
-    (frame_at t)
-    frame.Post
-    (λ c κs. search rules)
-    (λ c. search rules)
-    (λ c. search frame_none)
-    (λ c κs. (search frame_falls, (c.before.before.before.before.before.before.before.before.before.before.before.before.before.before.requires.1.0, search rules)))
-    (λ c κs. c.before.before.before.before.before.before.before.before.before.before.before.before.before.before.before.before.before.requires.1.0.cached)
-    (λ c. search rules)
-    (λ c. frame_done _ _ _ _ _ _ _ _ c.before.before.before.before.before.before.before.before.before.before.before.before.open-frame.ensures.done _ _ c.before.before.before.slots.ensures _ c.skip.ensures))
-    (λ t. instruction-lts.spec
-    (showing_below t, showing.Post, jumping_below t, jumping.Post, branching_below t, branching.Post, assigning_below t, assigning.Post)
-    (instruction_at t)
-    instruction.Post
-    (λ c κs. (omega arith, search rules))
-    (λ c. search rules)
-    (λ c. search instruction_show)
-    (λ c κs. (omega arith, search rules))
-    (λ c. search rules)
-    (λ c. search instruction_jump)
-    (λ c κs. (omega arith, search rules))
-    (λ c. search rules)
-    (λ c. search (instruction_ifeq, c.before.before.before.before.before.before.before.before.before.before.before.before.before.before.requires.1.1))
-    (λ c κs. (omega arith, search rules))
-    (λ c. search rules)
-    (λ c. search (instruction_assign, c.before.before.before.before.before.before.before.before.before.before.before.before.before.before.requires.1.1)))
-    (λ t. instructions-lts.spec
-    (line_below t, line.Post)
-    (instructions_at t)
-    instructions.Post
-    instructions_Inv_loop
-    instructions_μ_loop
-    (λ c. search lines_start)
-    (λ c. search rules)
-    (λ c. search lines_none)
-    (λ c κs. (omega arith, (c.before.before.before.before.before.before.before.before.before.before.requires.1.0, search rules)))
-    (λ c. search rules)
-    (λ c. search lines_stuck)
-    (λ c. omega arith)
-    (λ c. search lines_again)
-    (λ c. search rules)
-    (λ c. search lines_end))
-    (λ t. jumping-lts.spec
-    (go-to-reads.Asked, go-to-reads.Learnt, operand_below t, operand.Post, set-instruction-reads.Asked, set-instruction-reads.Learnt)
-    (jumping_at t)
-    jumping.Post
-    (λ c κs. search rules)
-    (λ c κs. (search first_falls, c.before.before.before.before.before.before.requires.1.0))
-    (λ c κs. search rules)
-    (λ c κs. (search second_falls, c.before.before.before.before.before.before.before.before.before.before.before.before.before.before.requires.1.0))
-    (λ c. search rules)
-    (λ c. jump_done _ _ _ _ _ _ _ c.before.before.before.before.before.before.before.before.before.before.before.before.before.before.before.before.before.requires.1.1 _ c.before.before.before.before.before.before.before.before.before.before.before.before.go_to.ensures _ _ c.before.before.before.before.before.before.before.before.before.before.operand.ensures _ c.before.before.before.before.before.before.set_instruction.ensures _ _ c.before.before.operand2.ensures))
-    (λ t. line-lts.spec
-    (one-instruction-reads.Asked, one-instruction-reads.Learnt, instruction_below t, instruction.Post, close-line-reads.Asked, close-line-reads.Learnt)
-    (line_at t)
-    line.Post
-    (λ c κs. search rules)
-    (λ c κs. (search line_falls, (c.before.before.before.before.before.before.requires.1.0, search seen_instruction)))
-    (λ c κs. c.before.before.before.before.before.before.before.before.before.before.requires.1.0.cached)
-    (λ c. search rules)
-    (λ c. search line_done))
-    (λ t. negation-lts.spec
-    (go-to-reads.Asked, go-to-reads.Learnt, set-expression-reads.Asked, set-expression-reads.Learnt, operand_below t, operand.Post)
-    (negation_at t)
-    negation.Post
-    (λ c κs. search rules)
-    (λ c κs. search rules)
-    (λ c κs. (search first_falls, c.before.before.before.before.before.before.before.before.before.before.requires.1.0))
-    (λ c. search rules)
-    (λ c. search negation_done))
-    (λ t. operand-lts.spec
-    (one-expression-reads.Asked, one-expression-reads.Learnt, look-reads.Asked, look-reads.Learnt, base_below t, base.Post)
-    (operand_at t)
-    operand.Post
-    (λ c κs. search rules)
-    (λ c κs. search rules)
-    (λ c κs. (search operand_falls, (c.before.before.before.before.before.before.before.requires.1, search rules)))
-    (λ c. search rules)
-    (λ c. search operand_done))
-    (λ t. right-lts.spec
-    (one-expression-reads.Asked, one-expression-reads.Learnt, look-reads.Asked, look-reads.Learnt, expression_below t, expression.Post)
-    (right_at t)
-    right.Post
-    (λ c κs. search rules)
-    (λ c κs. search rules)
-    (λ c κs. (search right_falls, (c.before.before.before.before.before.before.before.requires.1, search rules)))
-    (λ c. search rules)
-    (λ c. search right_done))
-    (λ t. showing-lts.spec
-    (go-to-reads.Asked, go-to-reads.Learnt, set-instruction-reads.Asked, set-instruction-reads.Learnt, operand_below t, operand.Post)
-    (showing_at t)
-    showing.Post
-    (λ c κs. search rules)
-    (λ c κs. search rules)
-    (λ c κs. (search first_falls, c.before.before.before.before.before.before.before.before.before.before.requires.1.0))
-    (λ c. search rules)
-    (λ c. search show_done))
-    (λ t. slot-lts.spec
-    (name-slot-reads.Asked, name-slot-reads.Learnt, within-slot-reads.Asked, within-slot-reads.Learnt, go-to-reads.Asked, go-to-reads.Learnt, right_below t, right.Post, close-slot-reads.Asked, close-slot-reads.Learnt)
-    (slot_at t)
-    slot.Post
-    (λ c κs. search rules)
-    (λ c κs. search rules)
-    (λ c κs. search rules)
-    (λ c κs. (search slot_falls, c.before.before.before.before.before.before.before.before.before.before.before.requires.1.0))
-    (λ c κs. c.before.before.before.before.before.before.before.before.before.before.before.before.before.before.before.requires.1.0.cached)
-    (λ c. search rules)
-    (λ c. search (slot_done, c.before.before.before.before.before.before.before.before.before.before.before.before.name-slot.ensures, c.before.before.before.before.before.before.before.before.before.within_slot.ensures, c.before.before.before.before.before.before.before.before.go_to.ensures, c.before.before.before.before.before.before.right.ensures, c.before.before.close-slot.ensures)))
-    λ t. slots-lts.spec
-    (pass-reads.Asked, pass-reads.Learnt, slot_below t, slot.Post)
-    (slots_at t)
-    slots.Post
-    slots_Inv_loop
-    slots_μ_loop
-    (λ c. search slots_start)
-    (λ c. search rules)
-    (λ c. search slots_other)
-    (λ c κs. c.before.before.before.before.before.before.before.before.before.requires.1.0.cached)
-    (λ c. search rules)
-    (λ c. search slots_none)
-    (λ c κs. (omega arith, (c.before.before.before.before.before.before.before.before.before.before.before.before.before.requires.1.0, search rules)))
-    (λ c. omega (arith, c.before.before.before.before.slot.ensures.done.on, c.before.before.before.before.before.before.before.before.before.before.before.before.before.loop.invariant.seen.on))
-    (λ c. search slots_again)
-    (λ c. search rules)
-    (λ c. search slots_end)
+pub base-block-requires : goal.base-block-requires
+base-block-requires t c = (omega arith, search rules)
+
+pub base-returns-then-t-eq28 : goal.base-returns-then-t-eq28
+base-returns-then-t-eq28 t c = search base_block
+
+pub base-returns-then-t-lt26 : goal.base-returns-then-t-lt26
+base-returns-then-t-lt26 t c = search base_path
+
+pub base-returns-then-t-eq26 : goal.base-returns-then-t-eq26
+base-returns-then-t-eq26 t c = search base_integer
+
+pub base-returns : goal.base-returns
+base-returns t c = search base_string
+
+pub binary-base-u-requires : goal.binary-base-u-requires
+binary-base-u-requires t c = (search binary_falls, (c.requires.1.0, search seen_expression))
+
+pub binary-operator-v-requires : goal.binary-operator-v-requires
+binary-operator-v-requires t c = c.requires.1.0.cached
+
+pub binary-operand-requires : goal.binary-operand-requires
+binary-operand-requires t c = (search binary_falls_2, c.requires.1.0)
+
+pub binary-returns : goal.binary-returns
+binary-returns t c = search binary_done
+
+pub block-returns-then-m-n : goal.block-returns-then-m-n
+block-returns-then-m-n t c = search block_none
+
+pub block-instructions-u-requires : goal.block-instructions-u-requires
+block-instructions-u-requires t c = (search block_falls, (c.requires.1.0, search rules))
+
+pub block-skip-requires : goal.block-skip-requires
+block-skip-requires t c = c.requires.1.0.cached
+
+pub block-returns : goal.block-returns
+block-returns t c = block_done _ _ _ _ _ _ _ _ c.open_block-o.ensures.done _ c.within_code-inner.ensures _ _ c.instructions-u.ensures _ c.skip.ensures
+
+pub branching-operand-u-requires : goal.branching-operand-u-requires
+branching-operand-u-requires t c = (search first_falls, c.requires.1.0)
+
+pub branching-operand-v-requires : goal.branching-operand-v-requires
+branching-operand-v-requires t c = (search second_falls, c.requires.1.0)
+
+pub branching-operand-requires : goal.branching-operand-requires
+branching-operand-requires t c = (third_falls _ _ _ c.requires.1.1 _ c.go_to-m.ensures _ _ c.operand-u.ensures.on c.operand-v.ensures.on _ c.requires.0, c.requires.1.0)
+
+pub branching-returns : goal.branching-returns
+branching-returns t c = ifeq_done _ _ _ _ _ _ _ c.requires.1.1 _ c.go_to-m.ensures _ _ c.operand-u.ensures _ _ c.operand-v.ensures _ c.set_instruction.ensures _ _ c.operand.ensures
+
+pub expression-frame-requires : goal.expression-frame-requires
+expression-frame-requires t c = (omega arith, search rules)
+
+pub expression-returns-then-t-eq0 : goal.expression-returns-then-t-eq0
+expression-returns-then-t-eq0 t c = search expression_frame
+
+pub expression-negation-requires : goal.expression-negation-requires
+expression-negation-requires t c = (omega arith, search rules)
+
+pub expression-returns-then-t-eq9 : goal.expression-returns-then-t-eq9
+expression-returns-then-t-eq9 t c = search expression_not
+
+pub expression-binary-requires : goal.expression-binary-requires
+expression-binary-requires t c = (omega arith, search rules)
+
+pub expression-returns-then-operator_after : goal.expression-returns-then-operator_after
+expression-returns-then-operator_after t c = search (expression_binary, c.requires.1.1)
+
+pub expression-base-requires : goal.expression-base-requires
+expression-base-requires t c = (omega arith, search rules)
+
+pub expression-returns : goal.expression-returns
+expression-returns t c = ⊎_elim (λ w. search (expression_base, c.requires.1.1)) (λ w. search (expression_outside, c.requires.1.1)) c.if-place.branch
+
+pub frame-returns-then-m-n : goal.frame-returns-then-m-n
+frame-returns-then-m-n t c = search frame_none
+
+pub frame-slots-u-requires : goal.frame-slots-u-requires
+frame-slots-u-requires t c = (search frame_falls, (c.requires.1.0, search rules))
+
+pub frame-skip-requires : goal.frame-skip-requires
+frame-skip-requires t c = c.requires.1.0.cached
+
+pub frame-returns : goal.frame-returns
+frame-returns t c = frame_done _ _ _ _ _ _ _ _ c.open_frame-o.ensures.done _ _ c.slots-u.ensures _ c.skip.ensures
+
+pub instruction-showing-requires : goal.instruction-showing-requires
+instruction-showing-requires t c = (omega arith, search rules)
+
+pub instruction-returns-then-t-eq2 : goal.instruction-returns-then-t-eq2
+instruction-returns-then-t-eq2 t c = search instruction_show
+
+pub instruction-jumping-requires : goal.instruction-jumping-requires
+instruction-jumping-requires t c = (omega arith, search rules)
+
+pub instruction-returns-then-t-eq3 : goal.instruction-returns-then-t-eq3
+instruction-returns-then-t-eq3 t c = search instruction_jump
+
+pub instruction-branching-requires : goal.instruction-branching-requires
+instruction-branching-requires t c = (omega arith, search rules)
+
+pub instruction-returns-then-t-eq4 : goal.instruction-returns-then-t-eq4
+instruction-returns-then-t-eq4 t c = search (instruction_ifeq, c.requires.1.1)
+
+pub instruction-assigning-requires : goal.instruction-assigning-requires
+instruction-assigning-requires t c = (omega arith, search rules)
+
+pub instruction-returns : goal.instruction-returns
+instruction-returns t c = search (instruction_assign, c.requires.1.1)
+
+pub instructions-loop-m-init : goal.instructions-loop-m-init
+instructions-loop-m-init t c = search lines_start
+
+pub instructions-returns-then-t-eq15 : goal.instructions-returns-then-t-eq15
+instructions-returns-then-t-eq15 t c = search lines_none
+
+pub instructions-line-r-requires : goal.instructions-line-r-requires
+instructions-line-r-requires t c = (omega arith, (c.requires.1.0, search rules))
+
+pub instructions-returns-then-m-at : goal.instructions-returns-then-m-at
+instructions-returns-then-m-at t c = search lines_stuck
+
+pub instructions-loop-m-preserved : goal.instructions-loop-m-preserved
+instructions-loop-m-preserved t c = search lines_again
+
+pub instructions-returns : goal.instructions-returns
+instructions-returns t c = search lines_end
+
+pub jumping-operand-u-requires : goal.jumping-operand-u-requires
+jumping-operand-u-requires t c = (search first_falls, c.requires.1.0)
+
+pub jumping-operand-requires : goal.jumping-operand-requires
+jumping-operand-requires t c = (search second_falls, c.requires.1.0)
+
+pub jumping-returns : goal.jumping-returns
+jumping-returns t c = jump_done _ _ _ _ _ _ _ c.requires.1.1 _ c.go_to-m.ensures _ _ c.operand-u.ensures _ c.set_instruction.ensures _ _ c.operand.ensures
+
+pub line-instruction-u-requires : goal.line-instruction-u-requires
+line-instruction-u-requires t c = (search line_falls, (c.requires.1.0, search seen_instruction))
+
+pub line-close_line-requires : goal.line-close_line-requires
+line-close_line-requires t c = c.requires.1.0.cached
+
+pub line-returns : goal.line-returns
+line-returns t c = search line_done
+
+pub negation-operand-requires : goal.negation-operand-requires
+negation-operand-requires t c = (search first_falls, c.requires.1.0)
+
+pub negation-returns : goal.negation-returns
+negation-returns t c = search negation_done
+
+pub operand-base-requires : goal.operand-base-requires
+operand-base-requires t c = (search operand_falls, (c.requires.1, search rules))
+
+pub operand-returns : goal.operand-returns
+operand-returns t c = search operand_done
+
+pub right-expression-requires : goal.right-expression-requires
+right-expression-requires t c = (search right_falls, (c.requires.1, search rules))
+
+pub right-returns : goal.right-returns
+right-returns t c = search right_done
+
+pub showing-operand-requires : goal.showing-operand-requires
+showing-operand-requires t c = (search first_falls, c.requires.1.0)
+
+pub showing-returns : goal.showing-returns
+showing-returns t c = search show_done
+
+pub slot-right-u-requires : goal.slot-right-u-requires
+slot-right-u-requires t c = (search slot_falls, c.requires.1.0)
+
+pub slot-close_slot-requires : goal.slot-close_slot-requires
+slot-close_slot-requires t c = c.requires.1.0.cached
+
+pub slot-returns : goal.slot-returns
+slot-returns t c = search (slot_done, c.name_slot-k.ensures, c.within_slot-inner.ensures, c.go_to-m.ensures, c.right-u.ensures, c.close_slot.ensures)
+
+pub slots-loop-m-init : goal.slots-loop-m-init
+slots-loop-m-init t c = search slots_start
+
+pub slots-returns-then-t-ne25 : goal.slots-returns-then-t-ne25
+slots-returns-then-t-ne25 t c = search slots_other
+
+pub slots-pass-q-requires : goal.slots-pass-q-requires
+slots-pass-q-requires t c = c.requires.1.0.cached
+
+pub slots-returns-then-q-t : goal.slots-returns-then-q-t
+slots-returns-then-q-t t c = search slots_none
+
+pub slots-slot-r-requires : goal.slots-slot-r-requires
+slots-slot-r-requires t c = (omega arith, (c.requires.1.0, search rules))
+
+pub slots-loop-m-smaller : goal.slots-loop-m-smaller
+slots-loop-m-smaller t c = omega (arith, c.slot-r.ensures.done.on, c.loop-m.invariant.seen.on)
+
+pub slots-loop-m-preserved : goal.slots-loop-m-preserved
+slots-loop-m-preserved t c = search slots_again
+
+pub slots-returns : goal.slots-returns
+slots-returns t c = search slots_end
