@@ -54,7 +54,7 @@ module _ (table : List (List ℕ)) (w : List ℕ) where
 pub names_shaped : (table : List (List ℕ)) (ts : List Token) → AllShaped ts → TableShaped table → TableShaped (names_after table ts)
 unfolding names_after
 names_shaped table [] a h = h
-names_shaped table (Token.name w ∷ ts) (AllShaped.more (TokenShaped.name n) a) h = names_shaped _ ts a (go (any (same w) table) refl)
+names_shaped table (Token.name w ∷ ts) (AllShaped.more (TokenShaped.name n) a) h = names_shaped (if any (same w) table then table else table ++ (w ∷ [])) ts a (go (any (same w) table) refl)
   where
     go : (t : Bool) → any (same w) table ≡ t → TableShaped (if t then table else table ++ (w ∷ []))
     go true e = h
@@ -128,7 +128,7 @@ known_front (v ∷ vs) more w h = go (same v w) refl h.below (λ q. known_front 
 known_more : (table : List (List ℕ)) (ts : List Token) (w : List ℕ) → Known table w → Known (names_after table ts) w
 unfolding names_after
 known_more table [] w h = h
-known_more table (Token.name v ∷ ts) w h = known_more _ ts w (go (any (same v) table))
+known_more table (Token.name v ∷ ts) w h = known_more (if any (same v) table then table else table ++ (v ∷ [])) ts w (go (any (same v) table))
   where
     go : (t : Bool) → Known (if t then table else table ++ (v ∷ [])) w
     go true = h

@@ -5,6 +5,7 @@ use Prim.Native.Nat.{◌-◌}
 use Rattle.emit_tree.proofs.Bases.{operand_falls, right_falls, binary_falls, binary_falls_2, first_falls, second_falls, third_falls, seen_expression, seen_instruction, operand_done, right_done, block_none, block_falls, block_done, base_block, base_path, base_integer, base_string, negation_done, binary_done, frame_none, frame_falls, frame_done, expression_frame, expression_not, expression_outside, expression_binary, expression_base}
 use Rattle.emit_tree.proofs.Lists.{slot_falls, slot_done, slots_start, slots_end, slots_other, slots_none, slots_again, show_done, jump_done, ifeq_done, assign_done, instruction_show, instruction_jump, instruction_ifeq, instruction_assign, line_falls, line_done, lines_start, lines_end, lines_none, lines_stuck, lines_again}
 use Rattle.emit_tree.proofs.+tree.Goals as goal
+use Rattle.emit_tree.proofs.+tree.Goals.{expression-else-place, expression-then-place}
 
 pub assigning-right-requires : goal.assigning-right-requires
 assigning-right-requires t c = (omega arith, c.requires.1.0)
@@ -85,7 +86,11 @@ pub expression-base-requires : goal.expression-base-requires
 expression-base-requires t c = (omega arith, search rules)
 
 pub expression-returns : goal.expression-returns
-expression-returns t c = ⊎_elim (λ w. search (expression_base, c.requires.1.1)) (λ w. search (expression_outside, c.requires.1.1)) c.if-place.branch
+expression-returns t c =
+    elim c.if-place.branch [
+      expression-then-place w ↦ search (expression_base, c.requires.1.1)
+    | expression-else-place w ↦ search (expression_outside, c.requires.1.1)
+    ]
 
 pub frame-returns-then-m-n : goal.frame-returns-then-m-n
 frame-returns-then-m-n t c = search frame_none
