@@ -3,13 +3,13 @@ use borrow.Author.Rules.{rules}
 use Rattle.check_source.proofs.check.Goals as goal
 
 pub returns-then-a-ne0 : goal.returns-then-a-ne0
-returns-then-a-ne0 c = (search check_lengths, (search rules, search kept_lengths))
+returns-then-a-ne0 c = record { number = search check_lengths; cached = search rules; kept = search kept_lengths }
 
 pub returns-then-b-ne0 : goal.returns-then-b-ne0
-returns-then-b-ne0 c = (search check_limits, (search rules, search kept_limits))
+returns-then-b-ne0 c = record { number = search check_limits; cached = search rules; kept = search kept_limits }
 
 pub source_refusal-n-requires : goal.source_refusal-n-requires
-source_refusal-n-requires c = (search check_short, (search rules, (search rules, (search rules, search rules))))
+source_refusal-n-requires c = record { short = search check_short; cached = search rules; unnoted = search rules; sized = search rules; placed = search rules }
 
 pub returns : goal.returns
-returns c = (search check_all, (search rules, search (kept_all, c.answer-2.ensures, c.source_refusal-n.ensures.number, c.source_refusal-n.ensures.cached.1)))
+returns c = record { number = search check_all; cached = search rules; kept = search (kept_all, c.answer-2.ensures, c.source_refusal-n.ensures.number, c.source_refusal-n.ensures.kept) }

@@ -3,13 +3,13 @@ use borrow.Author.Rules.{rules}
 use Rattle.check_source.proofs.source_refusal.Goals as goal
 
 pub returns-then-n-ne0 : goal.returns-then-n-ne0
-returns-then-n-ne0 c = (search source_early, (search rules, search kept_not))
+returns-then-n-ne0 c = record { number = search source_early; cached = search rules; kept = search kept_not }
 
 pub meaning_refusal-requires : goal.meaning_refusal-requires
-meaning_refusal-requires c = (search rules, search found_meaning)
+meaning_refusal-requires c = record { cached = search rules; found = search found_meaning }
 
 pub returns-then-one_frame : goal.returns-then-one_frame
-returns-then-one_frame c = (search source_means, (search rules, search kept_here))
+returns-then-one_frame c = record { number = search source_means; cached = search rules; kept = search kept_here }
 
 pub returns : goal.returns
-returns c = (search source_six, (search rules, search kept_six))
+returns c = record { number = search source_six; cached = search rules; kept = search kept_six }

@@ -6,7 +6,7 @@ pub returns-in_default : goal.returns-in_default
 returns-in_default c = search flat_read
 
 pub operation-requires : goal.operation-requires
-operation-requires c = (search flat_can, search rules)
+operation-requires c = record { can_produce = search flat_can; texts_full = search rules }
 
 pub returns : goal.returns
 returns c = search flat_operation

@@ -2,4 +2,4 @@ use Rattle.joining.proofs.Laws.{filled, filled_size}
 use Rattle.joining.proofs.fill_join.Goals as goal
 
 pub returns : goal.returns
-returns c = (search filled, search filled_size)
+returns c = record { bytes = search filled; size = search filled_size }

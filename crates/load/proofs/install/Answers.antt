@@ -3,10 +3,10 @@ use borrow.Author.Rules.{rules}
 use Rattle.load.proofs.install.Goals as goal
 
 pub emit-requires : goal.emit-requires
-emit-requires c = (search rules, (search rules, (search rules, (search rules, search install_can_emit))))
+emit-requires c = record { cached = search rules; kept = search rules; led = search rules; placed = search rules; can = search install_can_emit }
 
 pub start-requires : goal.start-requires
 start-requires c =
-                    install_can_start _ _ _ _ _ _ _ c.requires.kept.1 _ _ _ _ c.emit.ensures c.clear_words.ensures c.clear_bytes.ensures
+                    install_can_start _ _ _ _ _ _ _ c.requires.can _ _ _ _ c.emit.ensures c.clear_words.ensures c.clear_bytes.ensures
 pub returns : goal.returns
-returns c = search (install_done, c.requires.kept.1)
+returns c = search (install_done, c.requires.can)

@@ -6,15 +6,15 @@ use Rattle.load.proofs.load.Goals as goal
 )
 
 pub check-answer-requires : goal.check-answer-requires
-check-answer-requires c = (search fresh, (search fresh_unnoted, (search rules, search rules)))
+check-answer-requires c = record { cached = search fresh; unnoted = search fresh_unnoted; sized = search rules; placed = search rules }
 
 pub returns-in_default : goal.returns-in_default
-returns-in_default c = (search refused_exact, search refused_means)
+returns-in_default c = record { exact = search refused_exact; meaning = search refused_means }
 
 pub install-requires : goal.install-requires
 install-requires c = (
   search rules,
-  (search (loaded_kept, c.check-answer.ensures.cached.1, c.enum_told-1.given), load_can_install _ _ _ _ _ _ _ c.check-answer.result c.check-answer.ensures.number (search c.enum_told-1.given)),
+  (search (loaded_kept, c.check-answer.ensures.kept, c.enum_told-1.given), load_can_install _ _ _ _ _ _ _ c.check-answer.result c.check-answer.ensures.number (search c.enum_told-1.given)),
 
 pub returns : goal.returns
-returns c = (search loaded_exact, search loaded_means)
+returns c = record { exact = search loaded_exact; meaning = search loaded_means }

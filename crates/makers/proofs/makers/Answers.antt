@@ -2,7 +2,7 @@ use Rattle.makers.proofs.Laws.{makers_means, closed_here, refused_exact, makers_
 use Rattle.makers.proofs.makers.Goals as goal
 
 pub returns-then-not-well_formed : goal.returns-then-not-well_formed
-returns-then-not-well_formed c = (search refused_exact, search (makers_means, refused_exact))
+returns-then-not-well_formed c = record { exact = search refused_exact; meaning = search (makers_means, refused_exact) }
 
 pub mark-requires : goal.mark-requires
 mark-requires c = search closed_here
@@ -11,4 +11,4 @@ pub count_marked-requires : goal.count_marked-requires
 count_marked-requires c = search makers_fit
 
 pub returns : goal.returns
-returns c = (search counted_exact, search (makers_means, counted_exact))
+returns c = record { exact = search counted_exact; meaning = search (makers_means, counted_exact) }

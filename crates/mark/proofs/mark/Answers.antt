@@ -9,4 +9,4 @@ pub mark_queue-requires : goal.mark_queue-requires
 mark_queue-requires c = search started_ok
 
 pub returns : goal.returns
-returns c = (search mark_done, search mark_means)
+returns c = record { exact = search mark_done; means = search mark_means }

@@ -3,4 +3,4 @@ use Rattle.printing.proofs.Laws.{field_appended}
 use Rattle.printing.proofs.append_field.Goals as goal
 
 pub returns : goal.returns
-returns c = (search field_appended, search rules)
+returns c = record { appends = search field_appended; near = search rules }

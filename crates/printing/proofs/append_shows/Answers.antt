@@ -6,4 +6,4 @@ pub append-requires : goal.append-requires
 append-requires c = search (shows_fit, rules)
 
 pub returns : goal.returns
-returns c = (search shows_appended, search (shows_near, rules))
+returns c = record { appends = search shows_appended; near = search (shows_near, rules) }

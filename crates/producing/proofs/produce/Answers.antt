@@ -6,7 +6,7 @@ pub operate-o-requires : goal.operate-o-requires
 operate-o-requires c = search comparable_from
 
 pub join-requires : goal.join-requires
-join-requires c = (can_join _ _ _ _ _ _ _ c.requires.can_produce _ c.operate-o.ensures c.in-Joined.is, search rules)
+join-requires c = record { can_join = can_join _ _ _ _ _ _ _ c.requires.can_produce _ c.operate-o.ensures c.in-Joined.is; texts_full = search rules }
 
 pub returns-in-Integer : goal.returns-in-Integer
 returns-in-Integer c = produce_integer _ _ _ _ _ _ _ c.requires.can_produce _ c.operate-o.ensures _ _ c.in-Integer.is (search rules)

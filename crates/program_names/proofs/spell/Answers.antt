@@ -6,10 +6,10 @@ pub loop-i-init : goal.loop-i-init
 loop-i-init c = search spelling_start
 
 pub returns-then-n-i : goal.returns-then-n-i
-returns-then-n-i c = (search plain_end, search spelled_end)
+returns-then-n-i c = record { plain = search plain_end; key = search spelled_end }
 
 pub loop-i-preserved : goal.loop-i-preserved
 loop-i-preserved c = search spelling_again
 
 pub returns : goal.returns
-returns c = (search plain_done, search spelled_done)
+returns c = record { plain = search plain_done; key = search spelled_done }

@@ -13,7 +13,7 @@ pub returns-then-z-eq0 : goal.returns-then-z-eq0
 returns-then-z-eq0 c = search returns_done
 
 pub attempt-a-requires : goal.attempt-a-requires
-attempt-a-requires c = (search can_attempt, search rules)
+attempt-a-requires c = record { can_attempt = search can_attempt; knows_2 = search rules }
 
 pub returns-in_default : goal.returns-in_default
 returns-in_default c = search (returns_stopped, c.loop-steps.invariant.0, c.loop-steps-test.true, c.end_mark-e.ensures, c.if-e-ne0.false, c.position-z.ensures, c.if-z-eq0.false, c.attempt-a.ensures.exact, c.in_default.keys2, c.stop_after.ensures)

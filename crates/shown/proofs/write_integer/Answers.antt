@@ -3,4 +3,4 @@ use borrow.Author.Rules.{rules}
 use Rattle.shown.proofs.write_integer.Goals as goal
 
 pub returns : goal.returns
-returns c = (search (digits_written, rules), (search (digits_size, rules), search rules))
+returns c = record { bytes = search (digits_written, rules); size = search (digits_size, rules); below = search rules }

@@ -3,13 +3,13 @@ use borrow.Author.Rules.{rules}
 use Rattle.shown.proofs.write_shown.Goals as goal
 
 pub returns-in-Int : goal.returns-in-Int
-returns-in-Int c = (search (shows_int, rules), (search (size_int, rules), search rules))
+returns-in-Int c = record { bytes = search (shows_int, rules); size = search (size_int, rules); below = search rules }
 
 pub returns-in-Text : goal.returns-in-Text
-returns-in-Text c = (search shows_text, (search size_bytes, search rules))
+returns-in-Text c = record { bytes = search shows_text; size = search size_bytes; below = search rules }
 
 pub returns-in-Code : goal.returns-in-Code
-returns-in-Code c = (search shows_code, (search size_code, search rules))
+returns-in-Code c = record { bytes = search shows_code; size = search size_code; below = search rules }
 
 pub returns-in-Frame : goal.returns-in-Frame
-returns-in-Frame c = (search shows_frame, (search size_frame, search rules))
+returns-in-Frame c = record { bytes = search shows_frame; size = search size_frame; below = search rules }

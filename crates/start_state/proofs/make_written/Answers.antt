@@ -6,7 +6,7 @@ pub claim-f-requires : goal.claim-f-requires
 claim-f-requires c = search none_below
 
 pub fill-requires : goal.fill-requires
-fill-requires c = (search written_can_fill, search none_full)
+fill-requires c = record { can_fill = search written_can_fill; full = search none_full }
 
 pub returns : goal.returns
 returns c = search written_makes

@@ -5,19 +5,19 @@ use Rattle.step.proofs.Ready.{ready_step, full_ended, full_knows, ready_can, rea
 use Rattle.step.proofs.reserved.Goals as goal
 
 pub reserve_for-s-requires : goal.reserve_for-s-requires
-reserve_for-s-requires c = (search can_reserve, c.requires.makes_or_shows.1)
+reserve_for-s-requires c = record { can_reserve = search can_reserve; knows_2 = c.requires.knows_2 }
 
 pub returns-then-full-ne0 : goal.returns-then-full-ne0
-returns-then-full-ne0 c = (search (full_ended, words_fit {h = c.set_end_mark.new.0} c.slice_known-then-full-ne0-1.given), search full_knows)
+returns-then-full-ne0 c = record { exact = search (full_ended, words_fit {h = c.set_end_mark.new.0} c.slice_known-then-full-ne0-1.given); knows = search full_knows }
 
 pub joined-requires : goal.joined-requires
-joined-requires c = (search ready_step, (sym c.joins.ensures ∙ c.if-joins.true, search ready_room))
+joined-requires c = record { can_step = search ready_step; i_value = sym c.joins.ensures ∙ c.if-joins.true; room_for = search ready_room }
 
 pub returns-then-joins : goal.returns-then-joins
-returns-then-joins c = (search ready_quietly, c.joined.ensures.knows)
+returns-then-joins c = record { exact = search ready_quietly; knows = c.joined.ensures.knows }
 
 pub in_parts-requires : goal.in_parts-requires
-in_parts-requires c = (search ready_can, (search ready_form, search ready_room))
+in_parts-requires c = record { can_attempt = search ready_can; assigns_or_shows = search ready_form; room_for = search ready_room }
 
 pub returns : goal.returns
-returns c = (search (ready_attempts, c.requires.can_attempt, c.reserve_for-s.ensures.exact, c.if-full-ne0.false, c.in_parts.ensures.exact), c.in_parts.ensures.knows)
+returns c = record { exact = search (ready_attempts, c.requires.can_attempt, c.reserve_for-s.ensures.exact, c.if-full-ne0.false, c.in_parts.ensures.exact); knows = c.in_parts.ensures.knows }

@@ -9,4 +9,4 @@ returns-then-n-eq0 c = (
   reckons_nothing _ _ _ c.requires.can_reserve _ c.needed-n.ensures c.if-n-eq0.true _ c.requires.knows_2,
 
 pub returns : goal.returns
-returns c = (search reserve_counted, search reckons_counted)
+returns c = record { exact = search reserve_counted; knows = search reckons_counted }

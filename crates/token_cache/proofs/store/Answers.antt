@@ -6,4 +6,4 @@ pub set_entry-requires : goal.set_entry-requires
 set_entry-requires c = search store_packs
 
 pub returns : goal.returns
-returns c = (search rules, (search stored, search stored_notes))
+returns c = record { entry = search rules; cached = search stored; notes = search stored_notes }

@@ -6,4 +6,4 @@ pub set_entry-requires : goal.set_entry-requires
 set_entry-requires c = search store_packs
 
 pub returns : goal.returns
-returns c = (search rules, (search name_stored, search name_notes))
+returns c = record { entry = search rules; cached = search name_stored; notes = search name_notes }

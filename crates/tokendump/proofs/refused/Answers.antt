@@ -3,4 +3,4 @@ use borrow.Author.Rules.{rules}
 use Rattle.tokendump.proofs.refused.Goals as goal
 
 pub survey-found-requires : goal.survey-found-requires
-survey-found-requires c = (record { short = search rules }, (search fresh, (search fresh_unnoted, (search rules, search rules))))
+survey-found-requires c = record { short = record { short = search rules }; cached = search fresh; unnoted = search fresh_unnoted; sized = search rules; placed = search rules }
