@@ -120,13 +120,13 @@ module _ (p l h t : List ℕ) (o a b : ℕ) (r : Fetched) (er : defined (fetched
 -- ---- base_in, check_single
 
 abbrev NotNot : ExpressionEntry → Type 0
-NotNot e = OneOf (0 ∷ 1 ∷ 2 ∷ 3 ∷ 4 ∷ 5 ∷ 7 ∷ 8 ∷ []) (tag_of the_type e)
+NotNot e = ((k : ℕ) → e ≡ ExpressionEntry.Not k → ⊥)
 
 abbrev NotOperate : ExpressionEntry → Type 0
-NotOperate e = OneOf (0 ∷ 1 ∷ 2 ∷ 3 ∷ 4 ∷ 5 ∷ 6 ∷ 8 ∷ []) (tag_of the_type e)
+NotOperate e = ((k : ℕ) (n : ℕ) (i : ℕ) → e ≡ ExpressionEntry.Operate k n i → ⊥)
 
 abbrev NotFrame : ExpressionEntry → Type 0
-NotFrame e = OneOf (0 ∷ 1 ∷ 2 ∷ 3 ∷ 4 ∷ 6 ∷ 7 ∷ 8 ∷ []) (tag_of the_type e)
+NotFrame e = ((k : ℕ) → e ≡ ExpressionEntry.Frame k → ⊥)
 
 pub base_itself : (x : ℕ) (e : ExpressionEntry) → NotNot e → x ≡ base_in x e
 unfolding base_in
@@ -136,7 +136,7 @@ base_itself x (ExpressionEntry.FromSelf j n) k = refl
 base_itself x (ExpressionEntry.FromProgram j n) k = refl
 base_itself x (ExpressionEntry.Code n) k = refl
 base_itself x (ExpressionEntry.Frame d) k = refl
-base_itself x (ExpressionEntry.Not a) k = absurd (miss (0 ∷ 1 ∷ 2 ∷ 3 ∷ 4 ∷ 5 ∷ 7 ∷ 8 ∷ []) 6 tt k)
+base_itself x (ExpressionEntry.Not a) k = absurd (k a refl)
 base_itself x (ExpressionEntry.Operate o a b) k = refl
 base_itself x ExpressionEntry.Bad k = refl
 
@@ -154,7 +154,7 @@ module _ (p l h t : List ℕ) (x : ℕ) where
   single_base (ExpressionEntry.Code n) k = refl
   single_base (ExpressionEntry.Frame d) k = refl
   single_base (ExpressionEntry.Not a) k = refl
-  single_base (ExpressionEntry.Operate o a b) k = absurd (miss (0 ∷ 1 ∷ 2 ∷ 3 ∷ 4 ∷ 5 ∷ 6 ∷ 8 ∷ []) 7 tt k)
+  single_base (ExpressionEntry.Operate o a b) k = absurd (k o a b refl)
   single_base ExpressionEntry.Bad k = refl
 
   pub single_operand : (e : ExpressionEntry) (b r : ℕ) → NotOperate e → b ≡ base_in x e → r ≡ end_of (operand_value p h b) → r ≡ single_end p l h t x e
@@ -193,7 +193,7 @@ module _ (p l h t : List ℕ) (x : ℕ) (a : ChecksExpression p l h t x) where
   single_is (ExpressionEntry.FromSelf j n) at k = end_base _ (held_base (ExpressionEntry.FromSelf j n) at) (held_expression (ExpressionEntry.FromSelf j n) at)
   single_is (ExpressionEntry.FromProgram j n) at k = end_base _ (held_base (ExpressionEntry.FromProgram j n) at) (held_expression (ExpressionEntry.FromProgram j n) at)
   single_is (ExpressionEntry.Code n) at k = end_base _ (held_base (ExpressionEntry.Code n) at) (held_expression (ExpressionEntry.Code n) at)
-  single_is (ExpressionEntry.Frame d) at k = absurd (miss (0 ∷ 1 ∷ 2 ∷ 3 ∷ 4 ∷ 6 ∷ 7 ∷ 8 ∷ []) 5 tt k)
+  single_is (ExpressionEntry.Frame d) at k = absurd (k d refl)
   single_is (ExpressionEntry.Not c) at k = end_not c (held_expression (ExpressionEntry.Not c) at)
   single_is (ExpressionEntry.Operate o b c) at k = end_operation o b c (operate_from p x o b c (sym at)) (held_expression (ExpressionEntry.Operate o b c) at)
   single_is ExpressionEntry.Bad at k = end_base _ (held_base ExpressionEntry.Bad at) (held_expression ExpressionEntry.Bad at)

@@ -208,15 +208,15 @@ module _ (p l h : List ℕ) (a c : ℕ) (can : CanJump p l h a c) where
     jump_none e = nothing (λ t. rw (read t, ← er, e))
 
     module _ (v : Value) (ev : r ≡ Fetched.Found v) where
-      pub jump_no_code : OneOf (0 ∷ 1 ∷ 3 ∷ []) (tag_of the_type v) → Jumps p l h a c h
+      pub jump_no_code : ((k : ℕ) → v ≡ Value.Code k → ⊥) → Jumps p l h a c h
       unfolding commit_jump M.◌>>=◌ defined code_number
       jump_no_code o = nothing (λ t. rw (read t, ← er, ev) (go t v o))
         where
-          go : (t : List ℕ) (v : Value) → OneOf (0 ∷ 1 ∷ 3 ∷ []) (tag_of the_type v) → state_of p h t
+          go : (t : List ℕ) (v : Value) → ((k : ℕ) → v ≡ Value.Code k → ⊥) → state_of p h t
               ≡ commit_jump word_store (trees.program_held p l) (state_of p h t) (M.◌>>=◌ (code_number v) (λ k. M.◌>>=◌ (operand_value p h c) (λ w. gives (record { code = k; self = w }))))
           go t (Value.Int z) k = refl
           go t (Value.Text z) k = refl
-          go t (Value.Code z) k = absurd (miss (0 ∷ 1 ∷ 3 ∷ []) 2 tt k)
+          go t (Value.Code z) k = absurd (k z refl)
           go t (Value.Frame z) k = refl
 
       module _ (k : ℕ) (ek : v ≡ Value.Code k) (q : Fetched) (eq : defined (fetched q) ≡ operand_value p h c) where

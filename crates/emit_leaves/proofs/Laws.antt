@@ -206,12 +206,12 @@ module _ (s : List ℕ) (at : ℕ) (x : Found) (m : Meets a_base 1 s at x) where
       no_dot : this Fixed.dot vs ≡ fails
       no_dot = (by_this Fixed.dot (omega arith)).leaves vs (λ a b. nd (equal (front_kind vs) a b))
 
-  pub after_none : OneOf (1 ∷ []) (tag_of FoundType.the_type x) → OperatorAfter s at false
+  pub after_none : ((k : ℕ) → x ≡ Found.Done k → ⊥) → OperatorAfter s at false
   after_none o = record { is = λ table k c ts b vs d g nd. absurd (go x (outcome table k c ts b vs d g nd) o) }
     where
-      go : {table : List (List ℕ)} {b : Base Written} {vs : List Symbol} (y : Found) → Outcome Any s table (parsed b vs) y → OneOf (1 ∷ []) (tag_of FoundType.the_type y) → ⊥
+      go : {table : List (List ℕ)} {b : Base Written} {vs : List Symbol} (y : Found) → Outcome Any s table (parsed b vs) y → ((k : ℕ) → y ≡ Found.Done k → ⊥) → ⊥
       go Found.Refused (Outcome.refused e) o = fails≢parsed (sym e)
-      go (Found.Done p) z o = miss (1 ∷ []) 0 tt o
+      go (Found.Done p) z o = (o p refl)
 
   module _ (p : ℕ) (e : x ≡ Found.Done p) (k : ℕ) (h : KindAt s p k) where
     kind_after : (table : List (List ℕ)) (b : Base Written) (vs : List Symbol) → Outcome Any s table (parsed b vs) (Found.Done p) → front_kind vs ≡ k

@@ -56,19 +56,19 @@ module _ (l₀ : List ℕ) (k : ℕ) (w l : List ℕ) (i : ℕ) (c : Writing l�
 -- ---- One literal
 
 module _ (s : List ℕ) (at k : ℕ) (p l : List ℕ) (r : TokenRead) (found : TokenAt class s at r) where
-  pub literal_none : OneOf (0 ∷ 1 ∷ []) (tag_of the_type r) → Written s at k p l p l
+  pub literal_none : ((k : ℕ) (n : ℕ) (i : ℕ) (j : ℕ) → r ≡ TokenRead.Token k n i j → ⊥) → Written s at k p l p l
   unfolding token_length token_bytes
   literal_none o = record { read = r; found = found; words_are = words r o; bytes_are = bytes r o }
     where
-      words : (q : TokenRead) → OneOf (0 ∷ 1 ∷ []) (tag_of the_type q) → p ≡ token_length s k q p
+      words : (q : TokenRead) → ((k : ℕ) (n : ℕ) (i : ℕ) (j : ℕ) → q ≡ TokenRead.Token k n i j → ⊥) → p ≡ token_length s k q p
       words TokenRead.End o = refl
       words TokenRead.NoToken o = refl
-      words (TokenRead.Token j a q v) o = absurd (miss (0 ∷ 1 ∷ []) 2 tt o)
+      words (TokenRead.Token j a q v) o = absurd (o j a q v refl)
 
-      bytes : (q : TokenRead) → OneOf (0 ∷ 1 ∷ []) (tag_of the_type q) → l ≡ token_bytes s k q l
+      bytes : (q : TokenRead) → ((k : ℕ) (n : ℕ) (i : ℕ) (j : ℕ) → q ≡ TokenRead.Token k n i j → ⊥) → l ≡ token_bytes s k q l
       bytes TokenRead.End o = refl
       bytes TokenRead.NoToken o = refl
-      bytes (TokenRead.Token j a q v) o = absurd (miss (0 ∷ 1 ∷ []) 2 tt o)
+      bytes (TokenRead.Token j a q v) o = absurd (o j a q v refl)
 
   pub literal_one : (n a q x : ℕ) → r ≡ TokenRead.Token n a q x → (v : List ℕ) → v ≡ part s (a + 1) (q - 1) → (p' l' : List ℕ) → p' ≡ set_literal_length p k (length v) → l' ≡ write_literal_bytes v k 0 l →
       Written s at k p l p' l'

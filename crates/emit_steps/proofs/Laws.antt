@@ -41,16 +41,16 @@ at_last : {bs : List ℕ} → Tokens⊢ class bs [] → next class bs ≡ end
 at_last (Tokens⊢.at_end e) = e
 
 module _ (s : List ℕ) (at k : ℕ) (r : TokenRead) (found : TokenAt class s at r) where
-  no_first : OneOf (0 ∷ 1 ∷ []) (tag_of the_type r) → (t : Token) (ts : List Token) → Tokens⊢ class (rest s at) (t ∷ ts) → ⊥
+  no_first : ((k : ℕ) (n : ℕ) (i : ℕ) (j : ℕ) → r ≡ TokenRead.Token k n i j → ⊥) → (t : Token) (ts : List Token) → Tokens⊢ class (rest s at) (t ∷ ts) → ⊥
   unfolding meant
   no_first o t ts d = go r found.says o
     where
-      go : (q : TokenRead) → next class (rest s at) ≡ meant s q → OneOf (0 ∷ 1 ∷ []) (tag_of the_type q) → ⊥
+      go : (q : TokenRead) → next class (rest s at) ≡ meant s q → ((k : ℕ) (n : ℕ) (i : ℕ) (j : ℕ) → q ≡ TokenRead.Token k n i j → ⊥) → ⊥
       go TokenRead.End h o = end≢token (sym h ∙ (first_token d).1)
       go TokenRead.NoToken h o = no_token≢token (sym h ∙ (first_token d).1)
-      go (TokenRead.Token j a p x) h o = miss (0 ∷ 1 ∷ []) 2 tt o
+      go (TokenRead.Token j a p x) h o = (o j a p x refl)
 
-  pub pass_none : OneOf (0 ∷ 1 ∷ []) (tag_of the_type r) → Pass s at k at
+  pub pass_none : ((k : ℕ) (n : ℕ) (i : ℕ) (j : ℕ) → r ≡ TokenRead.Token k n i j → ⊥) → Pass s at k at
   pass_none o = record { taken = λ t ts d e. absurd (no_first o t ts d); left = λ ts d e. refl; on = omega arith }
 
   module _ (j a p w : ℕ) (h : r ≡ TokenRead.Token j a p w) where

@@ -86,7 +86,7 @@ module _ (p l h t : List ℕ) (x : ℕ) (can : CanEvaluate p l h t x) (e : Expre
   x_small : x < 1024
   x_small = let a = can.there in let b = can.writable.program.entries.limits.expressions_most in omega arith
 
-  pub evaluate_flat : OneOf (0 ∷ 1 ∷ 2 ∷ 3 ∷ 4 ∷ 6 ∷ 7 ∷ 8 ∷ []) (tag_of the_type e) → Flat p l h t x
+  pub evaluate_flat : ((k : ℕ) → e ≡ ExpressionEntry.Frame k → ⊥) → Flat p l h t x
   evaluate_flat o = record { can = can; no_frame = λ d q. miss (0 ∷ 1 ∷ 2 ∷ 3 ∷ 4 ∷ 6 ∷ 7 ∷ 8 ∷ []) 5 tt (rw (ee ∙ q) at o) }
 
   module _ (d : ℕ) (is : e ≡ ExpressionEntry.Frame d) (f : ℕ) (h₁ : List ℕ) (c : Claims h f h₁) (z : ℕ) (ez : z ≡ link 1024 x d) where

@@ -93,7 +93,7 @@ module _ (p l h t : List ℕ) (x : ℕ) (w : Writable p l h t) (there : x < expr
   is_base : (e : ExpressionEntry) → expression_at p x ≡ e → expression_tree (held.held p) p x e ≡ Expression.base (base_tree (held.held p) p e) → tree ≡ Expression.base (base_held p x)
   is_base e is q = one.expression x there ∙ rw is (q ∙ ap Expression.base (sym (rw is at (one.base x there))))
 
-  pub read_made : (e : ExpressionEntry) → expression_at p x ≡ e → ((d : ℕ) → e ≡ ExpressionEntry.Frame d → ⊥) → OneOf (0 ∷ 1 ∷ 2 ∷ 3 ∷ 4 ∷ 5 ∷ 6 ∷ 8 ∷ []) (tag_of the_type e) → Evaluates p l h t x (read_entry p h x e) h t
+  pub read_made : (e : ExpressionEntry) → expression_at p x ≡ e → ((d : ℕ) → e ≡ ExpressionEntry.Frame d → ⊥) → ((k : ℕ) (n : ℕ) (i : ℕ) → e ≡ ExpressionEntry.Operate k n i → ⊥) → Evaluates p l h t x (read_entry p h x e) h t
   unfolding read_entry expression_tree base_tree
   read_made (ExpressionEntry.Integer k) is nf o = still _ _ (is_base (ExpressionEntry.Integer k) is refl) base_made (operand_fits p l h w.program x there)
   read_made (ExpressionEntry.Literal k) is nf o = still _ _ (is_base (ExpressionEntry.Literal k) is refl) base_made (operand_fits p l h w.program x there)
@@ -102,7 +102,7 @@ module _ (p l h t : List ℕ) (x : ℕ) (w : Writable p l h t) (there : x < expr
   read_made (ExpressionEntry.Code k) is nf o = still _ _ (is_base (ExpressionEntry.Code k) is refl) base_made (operand_fits p l h w.program x there)
   read_made (ExpressionEntry.Frame d) is nf o = absurd (nf d refl)
   read_made (ExpressionEntry.Not a) is nf o = still _ _ (not_held p l w.program x there a is) (not_made a) (fits_bit _)
-  read_made (ExpressionEntry.Operate k a b) is nf o = absurd (miss (0 ∷ 1 ∷ 2 ∷ 3 ∷ 4 ∷ 5 ∷ 6 ∷ 8 ∷ []) 7 tt o)
+  read_made (ExpressionEntry.Operate k a b) is nf o = absurd (o k a b refl)
   read_made ExpressionEntry.Bad is nf o = still _ _ (is_base ExpressionEntry.Bad is refl) base_made (operand_fits p l h w.program x there)
 
 -- an expression that is a base by its kind
@@ -202,7 +202,7 @@ module _ (p l h t : List ℕ) (x : ℕ) (can : CanEvaluate p l h t x) (k a b : �
 -- ---- flat
 
 module _ (p l h t : List ℕ) (x : ℕ) (f : Flat p l h t x) (e : ExpressionEntry) (ee : e ≡ expression_at p x) where
-  pub flat_read : OneOf (0 ∷ 1 ∷ 2 ∷ 3 ∷ 4 ∷ 5 ∷ 6 ∷ 8 ∷ []) (tag_of the_type e) → (v : Value) → v ≡ read_value p h x → Evaluates p l h t x v h t
+  pub flat_read : ((k : ℕ) (n : ℕ) (i : ℕ) → e ≡ ExpressionEntry.Operate k n i → ⊥) → (v : Value) → v ≡ read_value p h x → Evaluates p l h t x v h t
   unfolding read_value
   flat_read o v ev =
       rw (ev, ← ee)

@@ -27,9 +27,9 @@ module _ (a : LookAnswer) where
   unfolding maker_cell
   maker_written n m k e i = i ∙ rw e
 
-pub integer_stays : (a : LookAnswer) (z : ℤ) → OneOf (1 ∷ 2 ∷ 3 ∷ 4 ∷ 5 ∷ 6 ∷ []) (tag_of the_type a) → z ≡ integer_cell a z
+pub integer_stays : (a : LookAnswer) (z : ℤ) → ((k : ℤ) → a ≡ LookAnswer.Integer k → ⊥) → z ≡ integer_cell a z
 unfolding integer_cell
-integer_stays (LookAnswer.Integer n) z k = absurd (miss (1 ∷ 2 ∷ 3 ∷ 4 ∷ 5 ∷ 6 ∷ []) 0 tt k)
+integer_stays (LookAnswer.Integer n) z k = absurd (k n refl)
 integer_stays LookAnswer.Text z k = refl
 integer_stays LookAnswer.Code z k = refl
 integer_stays (LookAnswer.Frame n) z k = refl
@@ -37,12 +37,12 @@ integer_stays LookAnswer.NotWellFormed z k = refl
 integer_stays LookAnswer.NotPath z k = refl
 integer_stays LookAnswer.Undefined z k = refl
 
-pub maker_stays : (a : LookAnswer) (m : ℕ) → OneOf (0 ∷ 1 ∷ 2 ∷ 4 ∷ 5 ∷ 6 ∷ []) (tag_of the_type a) → m ≡ maker_cell a m
+pub maker_stays : (a : LookAnswer) (m : ℕ) → ((k : ℕ) → a ≡ LookAnswer.Frame k → ⊥) → m ≡ maker_cell a m
 unfolding maker_cell
 maker_stays (LookAnswer.Integer n) m k = refl
 maker_stays LookAnswer.Text m k = refl
 maker_stays LookAnswer.Code m k = refl
-maker_stays (LookAnswer.Frame n) m k = absurd (miss (0 ∷ 1 ∷ 2 ∷ 4 ∷ 5 ∷ 6 ∷ []) 3 tt k)
+maker_stays (LookAnswer.Frame n) m k = absurd (k n refl)
 maker_stays LookAnswer.NotWellFormed m k = refl
 maker_stays LookAnswer.NotPath m k = refl
 maker_stays LookAnswer.Undefined m k = refl

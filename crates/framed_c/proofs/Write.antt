@@ -11,9 +11,9 @@ use Rattle.write.specs.Write.{writing, write_call, WriteMeans}
 use Rattle.framed_c.specs.Write.{length_cell, WritesInC}
 
 -- a cell that no length is written to stays
-cell_stays : (a : WriteAnswer) (k : ℕ) → OneOf (1 ∷ 2 ∷ []) (tag_of the_type a) → k ≡ length_cell a k
+cell_stays : (a : WriteAnswer) (k : ℕ) → ((k : ℕ) → a ≡ WriteAnswer.Written k → ⊥) → k ≡ length_cell a k
 unfolding length_cell
-cell_stays (WriteAnswer.Written n) k o = absurd (miss (1 ∷ 2 ∷ []) 0 tt o)
+cell_stays (WriteAnswer.Written n) k o = absurd (o n refl)
 cell_stays WriteAnswer.NotWellFormed k o = refl
 cell_stays WriteAnswer.ShortBuffer k o = refl
 
@@ -22,5 +22,5 @@ module _ (p h l t out out' : List ℕ) (a : WriteAnswer) (exact : write_call p h
   unfolding length_cell
   written r n m k e i is = record { answer = a; exact = exact; meaning = meaning; number = rw e is; length_after = i ∙ rw e }
 
-  pub refused : (r k : ℕ) → OneOf (1 ∷ 2 ∷ []) (tag_of the_type a) → r ≡ write_number a → WritesInC p h l t out k r out' k
+  pub refused : (r k : ℕ) → ((k : ℕ) → a ≡ WriteAnswer.Written k → ⊥) → r ≡ write_number a → WritesInC p h l t out k r out' k
   refused r k o e = record { answer = a; exact = exact; meaning = meaning; number = e; length_after = cell_stays a k o }

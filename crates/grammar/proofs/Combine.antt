@@ -108,20 +108,20 @@ module _ (s : List ℕ) (at kk a p w : ℕ) (known : kk < 29) (e : next class (r
       rw (token_inj (sym f ∙ e)) (rw (kind_is s a p w kk known) at (numbered_head s table k c p (token_of s kk a p w) ts (rw (rest_inj (sym f ∙ e)) at d)))
 
 -- where nothing is left, or no token, there are no symbols
-nothing : (s : List ℕ) (at : ℕ) (t : TokenRead) → TokenAt class s at t → OneOf (0 ∷ 1 ∷ []) (tag_of the_type t) →
+nothing : (s : List ℕ) (at : ℕ) (t : TokenRead) → TokenAt class s at t → ((k : ℕ) (n : ℕ) (i : ℕ) (j : ℕ) → t ≡ TokenRead.Token k n i j → ⊥) →
     (table : List (List ℕ)) (k c : ℕ) (ts : List Token) → Tokens⊢ class (rest s at) ts → front_kind (numbered table k c ts) ≡ 29
 unfolding front_kind numbered meant
 nothing s at TokenRead.End m o table k c _ (Tokens⊢.at_end f) = refl
 nothing s at TokenRead.End m o table k c _ (Tokens⊢.more f d) = absurd (end≢token (sym m.says ∙ f))
 nothing s at TokenRead.NoToken m o table k c _ (Tokens⊢.at_end f) = refl
 nothing s at TokenRead.NoToken m o table k c _ (Tokens⊢.more f d) = absurd (no_token≢token (sym m.says ∙ f))
-nothing s at (TokenRead.Token kk a p w) m o table k c ts d = absurd (miss (0 ∷ 1 ∷ []) 2 tt o)
+nothing s at (TokenRead.Token kk a p w) m o table k c ts d = absurd (o kk a p w refl)
 
 module _ (s : List ℕ) (at : ℕ) (t : TokenRead) (says : TokenAt class s at t) where
-  pub kind_none : OneOf (0 ∷ 1 ∷ []) (tag_of the_type t) → KindAt s at 29
+  pub kind_none : ((k : ℕ) (n : ℕ) (i : ℕ) (j : ℕ) → t ≡ TokenRead.Token k n i j → ⊥) → KindAt s at 29
   kind_none o = record { is = nothing s at t says o }
 
-  no_first : OneOf (0 ∷ 1 ∷ []) (tag_of the_type t) → (u : Token) (ts : List Token) → Tokens⊢ class (rest s at) (u ∷ ts) → ⊥
+  no_first : ((k : ℕ) (n : ℕ) (i : ℕ) (j : ℕ) → t ≡ TokenRead.Token k n i j → ⊥) → (u : Token) (ts : List Token) → Tokens⊢ class (rest s at) (u ∷ ts) → ⊥
   unfolding front_kind numbered kind_of
   no_first o u ts d = known u ((kind_none o).is [] 0 0 (u ∷ ts) d)
     where
@@ -135,7 +135,7 @@ module _ (s : List ℕ) (at : ℕ) (t : TokenRead) (says : TokenAt class s at t)
       known Token.code e = omega arith
       known (Token.fixed f) e = fixed f e
 
-  pub see_none : OneOf (0 ∷ 1 ∷ []) (tag_of the_type t) → Sees s at (record { kind = 29; word = 0; begin = at; end = at })
+  pub see_none : ((k : ℕ) (n : ℕ) (i : ℕ) (j : ℕ) → t ≡ TokenRead.Token k n i j → ⊥) → Sees s at (record { kind = 29; word = 0; begin = at; end = at })
   see_none o = record {
     kind_is = kind_none o;
     word_is = λ z ts d. absurd (no_first o (Token.integer z) ts d);
@@ -149,7 +149,7 @@ module _ (s : List ℕ) (at : ℕ) (t : TokenRead) (says : TokenAt class s at t)
     stands = λ l. absurd (omega arith);
   }
 
-  pub expect_none : (lo hi : ℕ) → KindsOk lo hi → OneOf (0 ∷ 1 ∷ []) (tag_of the_type t) → Expects s lo hi at Found.Refused
+  pub expect_none : (lo hi : ℕ) → KindsOk lo hi → ((k : ℕ) (n : ℕ) (i : ℕ) (j : ℕ) → t ≡ TokenRead.Token k n i j → ⊥) → Expects s lo hi at Found.Refused
   expect_none lo hi ok o = record {
     front = λ table k c ts d. Front.too_high (rw (nothing s at t says o table k c ts d) ok.known);
     on = Moved.stops;

@@ -139,12 +139,12 @@ module _ (source : List ℕ) (F T : ℕ) (p h l x : List ℕ) (r : LoadAnswer) (
   pub load_can_install : r ≡ LoadAnswer.Loaded → CanInstall (memories p h l x) source F T
   load_can_install q = record { accepted = sym e ∙ ap load_number q }
 
-  module _ (o : OneOf (1 ∷ 2 ∷ 3 ∷ 4 ∷ 5 ∷ 6 ∷ 7 ∷ 8 ∷ 9 ∷ 10 ∷ 11 ∷ 12 ∷ []) (tag_of the_type r)) where
+  module _ (o : (r ≡ LoadAnswer.Loaded → ⊥)) where
     refuses : refusal (lengths (memories p h l x)) source F T ≢ 0
     refuses z = go r o (e ∙ z)
       where
-        go : (a : LoadAnswer) → OneOf (1 ∷ 2 ∷ 3 ∷ 4 ∷ 5 ∷ 6 ∷ 7 ∷ 8 ∷ 9 ∷ 10 ∷ 11 ∷ 12 ∷ []) (tag_of the_type a) → load_number a ≡ 0 → ⊥
-        go LoadAnswer.Loaded o z = miss (1 ∷ 2 ∷ 3 ∷ 4 ∷ 5 ∷ 6 ∷ 7 ∷ 8 ∷ 9 ∷ 10 ∷ 11 ∷ 12 ∷ []) 0 tt o
+        go : (a : LoadAnswer) → (a ≡ LoadAnswer.Loaded → ⊥) → load_number a ≡ 0 → ⊥
+        go LoadAnswer.Loaded o z = (o refl)
         go LoadAnswer.MemoryLength o z = omega arith
         go LoadAnswer.LimitRange o z = omega arith
         go LoadAnswer.SourceLength o z = omega arith

@@ -49,19 +49,19 @@ module _ (p h : List ℕ) (x : Text) (k : ℕ) (r : Part) where
 -- ---- part_found
 
 module _ (p h : List ℕ) where
-  pub found_nothing : (x : Resolved) → OneOf (1 ∷ 2 ∷ []) (tag_of resolved.the_type x) → no_part ≡ part_found p h x
+  pub found_nothing : (x : Resolved) → ((k : Value) → x ≡ Resolved.Found k → ⊥) → no_part ≡ part_found p h x
   unfolding part_found
-  found_nothing (Resolved.Found v) o = absurd (miss (1 ∷ 2 ∷ []) 0 tt o)
+  found_nothing (Resolved.Found v) o = absurd (o v refl)
   found_nothing Resolved.Undefined o = refl
   found_nothing Resolved.NotPath o = refl
 
-  pub found_other : (x : Resolved) (v : Value) → x ≡ Resolved.Found v → OneOf (0 ∷ 2 ∷ 3 ∷ []) (tag_of value.the_type v) → no_part ≡ part_found p h x
+  pub found_other : (x : Resolved) (v : Value) → x ≡ Resolved.Found v → ((k : Text) → v ≡ Value.Text k → ⊥) → no_part ≡ part_found p h x
   unfolding part_found value_part
   found_other x v e o = rw e (go v o)
     where
-      go : (v : Value) → OneOf (0 ∷ 2 ∷ 3 ∷ []) (tag_of value.the_type v) → no_part ≡ value_part p h v
+      go : (v : Value) → ((k : Text) → v ≡ Value.Text k → ⊥) → no_part ≡ value_part p h v
       go (Value.Int z) o = refl
-      go (Value.Text t) o = absurd (miss (0 ∷ 2 ∷ 3 ∷ []) 1 tt o)
+      go (Value.Text t) o = absurd (o t refl)
       go (Value.Code k) o = refl
       go (Value.Frame f) o = refl
 

@@ -112,14 +112,14 @@ module _ (table : List (List ℕ)) where
 -- ---- name_at, dotted_name
 
 module _ (s : List ℕ) (at : ℕ) (t : TokenRead) (f : TokenAt class s at t) where
-  pub name_none : OneOf (0 ∷ 1 ∷ []) (tag_of the_type t) → NameAt s at Dotted.Other
+  pub name_none : ((k : ℕ) (n : ℕ) (i : ℕ) (j : ℕ) → t ≡ TokenRead.Token k n i j → ⊥) → NameAt s at Dotted.Other
   unfolding prepend dotted_names
   name_none o = go t f o
     where
-      go : (t : TokenRead) → TokenAt class s at t → OneOf (0 ∷ 1 ∷ []) (tag_of the_type t) → NameAt s at Dotted.Other
+      go : (t : TokenRead) → TokenAt class s at t → ((k : ℕ) (n : ℕ) (i : ℕ) (j : ℕ) → t ≡ TokenRead.Token k n i j → ⊥) → NameAt s at Dotted.Other
       go TokenRead.End f o = NameAt.other (λ table. rw (tokens_at_end class s at TokenRead.End f refl) (dot_alone table))
       go TokenRead.NoToken f o = NameAt.other (λ table. rw (tokens_at_none class s at TokenRead.NoToken f refl))
-      go (TokenRead.Token k a e w) f o = absurd (miss (0 ∷ 1 ∷ []) 2 tt o)
+      go (TokenRead.Token k a e w) f o = absurd (o k a e w refl)
 
   pub dotted_end : t ≡ TokenRead.End → DottedAt s at Dotted.End
   dotted_end e = DottedAt.at_end (tokens_at_end class s at t f e)
@@ -247,14 +247,14 @@ module _ (q : Program) (s : State) where
   from_nothing = rw (numbered, path_none)
 
 module _ (p h s : List ℕ) (t : TokenRead) (f : TokenAt class s 0 t) where
-  pub resolve_none : OneOf (0 ∷ 1 ∷ []) (tag_of the_type t) → Resolves p h s Resolved.NotPath
+  pub resolve_none : ((k : ℕ) (n : ℕ) (i : ℕ) (j : ℕ) → t ≡ TokenRead.Token k n i j → ⊥) → Resolves p h s Resolved.NotPath
   unfolding rest resolved reached read_path
   resolve_none o = record { is = λ q st a b c d. go t f o q st }
     where
-      go : (t : TokenRead) → TokenAt class s 0 t → OneOf (0 ∷ 1 ∷ []) (tag_of the_type t) → (q : Program) (st : State) → Resolved.NotPath ≡ resolved q st s
+      go : (t : TokenRead) → TokenAt class s 0 t → ((k : ℕ) (n : ℕ) (i : ℕ) (j : ℕ) → t ≡ TokenRead.Token k n i j → ⊥) → (q : Program) (st : State) → Resolved.NotPath ≡ resolved q st s
       go TokenRead.End f o q st = from_nothing q st ∙ ap (λ (x : Option (List Token)). reached st (read_path q x)) (sym (tokens_at_end class s 0 TokenRead.End f refl))
       go TokenRead.NoToken f o q st = ap (λ (x : Option (List Token)). reached st (read_path q x)) (sym (tokens_at_none class s 0 TokenRead.NoToken f refl))
-      go (TokenRead.Token k a e w) f o q st = absurd (miss (0 ∷ 1 ∷ []) 2 tt o)
+      go (TokenRead.Token k a e w) f o q st = absurd (o k a e w refl)
 
   module _ (k a e w : ℕ) (g : t ≡ TokenRead.Token k a e w) where
     spot : Spot 0 (length s) k a e

@@ -53,10 +53,10 @@ module _ (m : List ℕ) where
 
 -- ---- mark_text
 
-pub text_else : (t : Text) (m : List ℕ) → OneOf (0 ∷ []) (tag_of text-type.the_type t) → m ≡ mark_text t m
+pub text_else : (t : Text) (m : List ℕ) → ((k : ℕ) → t ≡ Text.Made k → ⊥) → m ≡ mark_text t m
 unfolding mark_text
 text_else (Text.Literal k) m e = refl
-text_else (Text.Made k) m e = absurd (miss (0 ∷ []) 1 tt e)
+text_else (Text.Made k) m e = absurd (e k refl)
 
 module _ (t : Text) (k i : ℕ) (et : t ≡ Text.Made k) (ei : i ≡ k) where
   pub text_below : AtText t → 256 + i < 512

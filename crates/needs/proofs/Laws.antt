@@ -62,7 +62,7 @@ module _ (p : List ℕ) (x : ℕ) (a : AtExpression p x) (e : ExpressionEntry) (
 -- ---- Any other expression
 
 abbrev Other : ExpressionEntry → Type 0
-Other e = OneOf (0 ∷ 1 ∷ 2 ∷ 3 ∷ 4 ∷ 6 ∷ 7 ∷ 8 ∷ []) (tag_of the_type e)
+Other e = ((k : ℕ) → e ≡ ExpressionEntry.Frame k → ⊥)
 
 no_frames : (r : Readers) (p : List ℕ) (x : ℕ) (e : ExpressionEntry) → Other e → frame_literals (expression_tree r p x e) ≡ 0
 unfolding expression_tree frame_literals
@@ -71,7 +71,7 @@ no_frames r p x (ExpressionEntry.Literal n) k = refl
 no_frames r p x (ExpressionEntry.FromSelf j n) k = refl
 no_frames r p x (ExpressionEntry.FromProgram j n) k = refl
 no_frames r p x (ExpressionEntry.Code n) k = refl
-no_frames r p x (ExpressionEntry.Frame d) k = absurd (miss (0 ∷ 1 ∷ 2 ∷ 3 ∷ 4 ∷ 6 ∷ 7 ∷ 8 ∷ []) 5 tt k)
+no_frames r p x (ExpressionEntry.Frame d) k = absurd (k d refl)
 no_frames r p x (ExpressionEntry.Not a) k = refl
 no_frames r p x (ExpressionEntry.Operate o a b) k = refl
 no_frames r p x ExpressionEntry.Bad k = refl
@@ -83,7 +83,7 @@ own_joins r p x (ExpressionEntry.Literal n) k = refl
 own_joins r p x (ExpressionEntry.FromSelf j n) k = refl
 own_joins r p x (ExpressionEntry.FromProgram j n) k = refl
 own_joins r p x (ExpressionEntry.Code n) k = refl
-own_joins r p x (ExpressionEntry.Frame d) k = absurd (miss (0 ∷ 1 ∷ 2 ∷ 3 ∷ 4 ∷ 6 ∷ 7 ∷ 8 ∷ []) 5 tt k)
+own_joins r p x (ExpressionEntry.Frame d) k = absurd (k d refl)
 own_joins r p x (ExpressionEntry.Not a) k = refl
 own_joins r p x (ExpressionEntry.Operate o a b) k = refl
 own_joins r p x ExpressionEntry.Bad k = refl
@@ -124,7 +124,7 @@ module _ (p : List ℕ) (x : ℕ) (a : AtExpression p x) (e : ExpressionEntry) (
 pub sign_few : (e : ExpressionEntry) (r : ℕ) → r ≡ join_sign e → r ≤ 257
 sign_few e r er = most (join_sign e) r (er ∙ sym (cap_sign e))
 
-pub sign_other : (e : ExpressionEntry) → OneOf (0 ∷ 1 ∷ 2 ∷ 3 ∷ 4 ∷ 5 ∷ 6 ∷ 8 ∷ []) (tag_of the_type e) → 0 ≡ join_sign e
+pub sign_other : (e : ExpressionEntry) → ((k : ℕ) (n : ℕ) (i : ℕ) → e ≡ ExpressionEntry.Operate k n i → ⊥) → 0 ≡ join_sign e
 unfolding join_sign
 sign_other (ExpressionEntry.Integer w) k = refl
 sign_other (ExpressionEntry.Literal n) k = refl
@@ -133,7 +133,7 @@ sign_other (ExpressionEntry.FromProgram j n) k = refl
 sign_other (ExpressionEntry.Code n) k = refl
 sign_other (ExpressionEntry.Frame d) k = refl
 sign_other (ExpressionEntry.Not a) k = refl
-sign_other (ExpressionEntry.Operate o a b) k = absurd (miss (0 ∷ 1 ∷ 2 ∷ 3 ∷ 4 ∷ 5 ∷ 6 ∷ 8 ∷ []) 7 tt k)
+sign_other (ExpressionEntry.Operate o a b) k = absurd (k o a b refl)
 sign_other ExpressionEntry.Bad k = refl
 
 module _ (e : ExpressionEntry) (o a b : ℕ) (is : e ≡ ExpressionEntry.Operate o a b) where

@@ -18,12 +18,12 @@ use Rattle.program_equality.specs.Agreement.{constants_held, codes_agree}
 
 module _ (c : Constants) (made : List (List ℕ)) (v w : Value) where
   module _ (y : ℤ) (ev : v ≡ Value.Int y) where
-    pub int_else : OneOf (1 ∷ 2 ∷ 3 ∷ []) (tag_of the_type w) → false ≡ equal_values c made v w
+    pub int_else : ((k : ℤ) → w ≡ Value.Int k → ⊥) → false ≡ equal_values c made v w
     unfolding equal_values
     int_else o = rw ev (go w o)
       where
-        go : (u : Value) → OneOf (1 ∷ 2 ∷ 3 ∷ []) (tag_of the_type u) → false ≡ equal_values c made (Value.Int y) u
-        go (Value.Int z) k = absurd (miss (1 ∷ 2 ∷ 3 ∷ []) 0 tt k)
+        go : (u : Value) → ((k : ℤ) → u ≡ Value.Int k → ⊥) → false ≡ equal_values c made (Value.Int y) u
+        go (Value.Int z) k = absurd (k z refl)
         go (Value.Text u) k = refl
         go (Value.Code m) k = refl
         go (Value.Frame m) k = refl
@@ -33,36 +33,36 @@ module _ (c : Constants) (made : List (List ℕ)) (v w : Value) where
     int_same z a b r ew e ea eb = rw (ev, ew, e, ea, eb)
 
   module _ (x : Text) (ev : v ≡ Value.Text x) where
-    pub text_else : OneOf (0 ∷ 2 ∷ 3 ∷ []) (tag_of the_type w) → false ≡ equal_values c made v w
+    pub text_else : ((k : Text) → w ≡ Value.Text k → ⊥) → false ≡ equal_values c made v w
     unfolding equal_values
     text_else o = rw ev (go w o)
       where
-        go : (u : Value) → OneOf (0 ∷ 2 ∷ 3 ∷ []) (tag_of the_type u) → false ≡ equal_values c made (Value.Text x) u
+        go : (u : Value) → ((k : Text) → u ≡ Value.Text k → ⊥) → false ≡ equal_values c made (Value.Text x) u
         go (Value.Int z) k = refl
-        go (Value.Text u) k = absurd (miss (0 ∷ 2 ∷ 3 ∷ []) 1 tt k)
+        go (Value.Text u) k = absurd (k u refl)
         go (Value.Code m) k = refl
         go (Value.Frame m) k = refl
 
   module _ (n : ℕ) where
-    pub code_else : v ≡ Value.Code n → OneOf (0 ∷ 1 ∷ 3 ∷ []) (tag_of the_type w) → false ≡ equal_values c made v w
+    pub code_else : v ≡ Value.Code n → ((k : ℕ) → w ≡ Value.Code k → ⊥) → false ≡ equal_values c made v w
     unfolding equal_values
     code_else ev o = rw ev (go w o)
       where
-        go : (u : Value) → OneOf (0 ∷ 1 ∷ 3 ∷ []) (tag_of the_type u) → false ≡ equal_values c made (Value.Code n) u
+        go : (u : Value) → ((k : ℕ) → u ≡ Value.Code k → ⊥) → false ≡ equal_values c made (Value.Code n) u
         go (Value.Int z) k = refl
         go (Value.Text u) k = refl
-        go (Value.Code m) k = absurd (miss (0 ∷ 1 ∷ 3 ∷ []) 2 tt k)
+        go (Value.Code m) k = absurd (k m refl)
         go (Value.Frame m) k = refl
 
-    pub frame_else : v ≡ Value.Frame n → OneOf (0 ∷ 1 ∷ 2 ∷ []) (tag_of the_type w) → false ≡ equal_values c made v w
+    pub frame_else : v ≡ Value.Frame n → ((k : ℕ) → w ≡ Value.Frame k → ⊥) → false ≡ equal_values c made v w
     unfolding equal_values
     frame_else ev o = rw ev (go w o)
       where
-        go : (u : Value) → OneOf (0 ∷ 1 ∷ 2 ∷ []) (tag_of the_type u) → false ≡ equal_values c made (Value.Frame n) u
+        go : (u : Value) → ((k : ℕ) → u ≡ Value.Frame k → ⊥) → false ≡ equal_values c made (Value.Frame n) u
         go (Value.Int z) k = refl
         go (Value.Text u) k = refl
         go (Value.Code m) k = refl
-        go (Value.Frame m) k = absurd (miss (0 ∷ 1 ∷ 2 ∷ []) 3 tt k)
+        go (Value.Frame m) k = absurd (k m refl)
 
     pub frame_same : (m : ℕ) → v ≡ Value.Frame n → w ≡ Value.Frame m → eqb n m ≡ equal_values c made v w
     unfolding equal_values

@@ -72,23 +72,23 @@ arithmetic_case P a b c d e k = go (eqb k 7) (eqb k 8) (eqb k 9) (eqb k 10)
     go false false false false = e
 
 module _ (k : ℕ) (v w : Value) where
-  pub left_else : OneOf (1 ∷ 2 ∷ 3 ∷ []) (tag_of the_type v) → outcome (Arithmetic.Ended 31) ≡ arithmetic_operated k v w
+  pub left_else : ((k : ℤ) → v ≡ Value.Int k → ⊥) → outcome (Arithmetic.Ended 31) ≡ arithmetic_operated k v w
   unfolding arithmetic_operated operated integer_in ◌>>=◌
   left_else o = go v o
     where
-      go : (u : Value) → OneOf (1 ∷ 2 ∷ 3 ∷ []) (tag_of the_type u) → outcome (Arithmetic.Ended 31) ≡ operated no_constants [] (arithmetic_of k) u w
-      go (Value.Int y) q = absurd (miss (1 ∷ 2 ∷ 3 ∷ []) 0 tt q)
+      go : (u : Value) → ((k : ℤ) → u ≡ Value.Int k → ⊥) → outcome (Arithmetic.Ended 31) ≡ operated no_constants [] (arithmetic_of k) u w
+      go (Value.Int y) q = absurd (q y refl)
       go (Value.Text x) q = arithmetic_case (λ o. ends 31 ≡ operated no_constants [] o (Value.Text x) w) refl refl refl refl refl k
       go (Value.Code n) q = arithmetic_case (λ o. ends 31 ≡ operated no_constants [] o (Value.Code n) w) refl refl refl refl refl k
       go (Value.Frame n) q = arithmetic_case (λ o. ends 31 ≡ operated no_constants [] o (Value.Frame n) w) refl refl refl refl refl k
 
   module _ (y : ℤ) (ev : v ≡ Value.Int y) where
-    pub right_else : OneOf (1 ∷ 2 ∷ 3 ∷ []) (tag_of the_type w) → outcome (Arithmetic.Ended 31) ≡ arithmetic_operated k v w
+    pub right_else : ((k : ℤ) → w ≡ Value.Int k → ⊥) → outcome (Arithmetic.Ended 31) ≡ arithmetic_operated k v w
     unfolding arithmetic_operated operated integer_in ◌>>=◌
     right_else o = rw ev (go w o)
       where
-        go : (u : Value) → OneOf (1 ∷ 2 ∷ 3 ∷ []) (tag_of the_type u) → outcome (Arithmetic.Ended 31) ≡ operated no_constants [] (arithmetic_of k) (Value.Int y) u
-        go (Value.Int z) q = absurd (miss (1 ∷ 2 ∷ 3 ∷ []) 0 tt q)
+        go : (u : Value) → ((k : ℤ) → u ≡ Value.Int k → ⊥) → outcome (Arithmetic.Ended 31) ≡ operated no_constants [] (arithmetic_of k) (Value.Int y) u
+        go (Value.Int z) q = absurd (q z refl)
         go (Value.Text x) q = arithmetic_case (λ o. ends 31 ≡ operated no_constants [] o (Value.Int y) (Value.Text x)) refl refl refl refl refl k
         go (Value.Code n) q = arithmetic_case (λ o. ends 31 ≡ operated no_constants [] o (Value.Int y) (Value.Code n)) refl refl refl refl refl k
         go (Value.Frame n) q = arithmetic_case (λ o. ends 31 ≡ operated no_constants [] o (Value.Int y) (Value.Frame n)) refl refl refl refl refl k
@@ -218,10 +218,10 @@ module _ (p l h t : List ℕ) (k : ℕ) (v w : Value) where
     unfolding end_of
     end_is e er = rw (arithmetic_held, er)
 
-    pub end_else : OneOf (0 ∷ []) (tag_of arithmetic-type a) → 0 ≡ end_of (operated held made (operator_of k) v w)
+    pub end_else : ((k : ℕ) → a ≡ Arithmetic.Ended k → ⊥) → 0 ≡ end_of (operated held made (operator_of k) v w)
     unfolding end_of
     end_else q = rw arithmetic_held (go a q)
       where
-        go : (x : Arithmetic) → OneOf (0 ∷ []) (tag_of arithmetic-type x) → 0 ≡ end_of (outcome x)
+        go : (x : Arithmetic) → ((k : ℕ) → x ≡ Arithmetic.Ended k → ⊥) → 0 ≡ end_of (outcome x)
         go (Arithmetic.Integer z) m = refl
-        go (Arithmetic.Ended e) m = absurd (miss (0 ∷ []) 1 tt m)
+        go (Arithmetic.Ended e) m = absurd (m e refl)

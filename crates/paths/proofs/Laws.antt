@@ -71,12 +71,12 @@ module _ (h : List ℕ) (f x n i : ℕ) (a : Find h f x n i) where
 
 -- ---- get
 
-pub get_else : (h : List ℕ) (x : ℕ) (v : Value) → OneOf (0 ∷ 1 ∷ 2 ∷ []) (tag_of the_type v) → fetched Fetched.Undefined ≡ get (frames_held h) v x
+pub get_else : (h : List ℕ) (x : ℕ) (v : Value) → ((k : ℕ) → v ≡ Value.Frame k → ⊥) → fetched Fetched.Undefined ≡ get (frames_held h) v x
 unfolding get frame_of ◌>>=◌
 get_else h x (Value.Int n) e = refl
 get_else h x (Value.Text t) e = refl
 get_else h x (Value.Code n) e = refl
-get_else h x (Value.Frame f) e = absurd (miss (0 ∷ 1 ∷ 2 ∷ []) 3 tt e)
+get_else h x (Value.Frame f) e = absurd (e f refl)
 
 -- a frame's slots as `framed` reads them
 pub get_frame : (h : List ℕ) (f x : ℕ) → f < 256 → get (frames_held h) (Value.Frame f) x ≡ in_slots (frame_held h f).slots x

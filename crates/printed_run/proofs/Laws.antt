@@ -73,22 +73,22 @@ module _ {source : List ℕ} {a : LoadAnswer} {p h l t : List ℕ} {n : ℕ} (me
     follows = ran_from_start q p h l t loads.held x h₂ t₂ shown run_means
 
     -- the run is not refused
-    pub never_refused : OneOf (1 ∷ []) (tag_of run-type x) → ⊥
+    pub never_refused : ((k : RunReport) → x ≡ RunAnswer.Stopped k → ⊥) → ⊥
     unfolding report_kind
     never_refused k = go x k follows.reported
       where
-        go : (y : RunAnswer) → OneOf (1 ∷ []) (tag_of run-type y) → run_report y shown ≡ ran_report q → ⊥
-        go (RunAnswer.Stopped r) k e = miss (1 ∷ []) 0 tt k
+        go : (y : RunAnswer) → ((k : RunReport) → y ≡ RunAnswer.Stopped k → ⊥) → run_report y shown ≡ ran_report q → ⊥
+        go (RunAnswer.Stopped r) k e = (k r refl)
         go RunAnswer.NotWellFormed k e = let z : ◌≡◌ {A = ℕ} 2 0 = ap report_kind e in omega arith
 
     module _ {y : CollectAnswer} {h₃ : List ℕ} (collects : collect_call p h₂ l t₂ ≡ collecting y h₃) where
       -- nor is the collect
-      pub never_uncollected : OneOf (1 ∷ []) (tag_of collect-type y) → ⊥
+      pub never_uncollected : ((k : Totals) → y ≡ CollectAnswer.Collected k → ⊥) → ⊥
       unfolding report_kind
       never_uncollected k = go y k (collected_after follows y h₃ collects)
         where
-          go : (z : CollectAnswer) → OneOf (1 ∷ []) (tag_of collect-type z) → collect_report z ≡ totals_report q → ⊥
-          go (CollectAnswer.Collected t) k e = miss (1 ∷ []) 0 tt k
+          go : (z : CollectAnswer) → ((k : Totals) → z ≡ CollectAnswer.Collected k → ⊥) → collect_report z ≡ totals_report q → ⊥
+          go (CollectAnswer.Collected t) k e = (k t refl)
           go CollectAnswer.NotWellFormed k e = let z : ◌≡◌ {A = ℕ} 2 1 = ap report_kind e in omega arith
 
       module _ {report : RunReport} {totals : Totals} (stopped : x ≡ RunAnswer.Stopped report) (collected : y ≡ CollectAnswer.Collected totals) where

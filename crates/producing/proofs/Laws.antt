@@ -54,18 +54,18 @@ module _ (p h : List ℕ) (x : ℕ) (r : Fetched) (er : defined (fetched r) ≡ 
   given_some v e = rw (← er, e)
 
 module _ (p h : List ℕ) (x : ℕ) (e : ExpressionEntry) (ee : e ≡ expression_at p x) where
-  pub read_base : OneOf (0 ∷ 1 ∷ 2 ∷ 3 ∷ 4 ∷ 5 ∷ 7 ∷ 8 ∷ []) (tag_of the_type e) → (v : Value) → v ≡ value_given (operand_value p h x) → v ≡ read_value p h x
+  pub read_base : ((k : ℕ) → e ≡ ExpressionEntry.Not k → ⊥) → (v : Value) → v ≡ value_given (operand_value p h x) → v ≡ read_value p h x
   unfolding read_value read_entry
   read_base o v ev = rw (← ee) (go e o)
     where
-      go : (e : ExpressionEntry) → OneOf (0 ∷ 1 ∷ 2 ∷ 3 ∷ 4 ∷ 5 ∷ 7 ∷ 8 ∷ []) (tag_of the_type e) → v ≡ read_entry p h x e
+      go : (e : ExpressionEntry) → ((k : ℕ) → e ≡ ExpressionEntry.Not k → ⊥) → v ≡ read_entry p h x e
       go (ExpressionEntry.Integer w) k = ev
       go (ExpressionEntry.Literal w) k = ev
       go (ExpressionEntry.FromSelf j n) k = ev
       go (ExpressionEntry.FromProgram j n) k = ev
       go (ExpressionEntry.Code w) k = ev
       go (ExpressionEntry.Frame d) k = ev
-      go (ExpressionEntry.Not a) k = absurd (miss (0 ∷ 1 ∷ 2 ∷ 3 ∷ 4 ∷ 5 ∷ 7 ∷ 8 ∷ []) 6 tt k)
+      go (ExpressionEntry.Not a) k = absurd (k a refl)
       go (ExpressionEntry.Operate o a b) k = ev
       go ExpressionEntry.Bad k = ev
 

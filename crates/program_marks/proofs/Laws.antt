@@ -148,13 +148,13 @@ pub named_code : (w : ℕ) (e : ExpressionEntry) (m m' : List ℕ) (k b : ℕ) �
 unfolding mark_named
 named_code w e m m' k b q s g = rw (q, ← s) g
 
-pub named_else : (w : ℕ) (e : ExpressionEntry) (m : List ℕ) → OneOf (0 ∷ 1 ∷ 2 ∷ 3 ∷ 5 ∷ 6 ∷ 7 ∷ 8 ∷ []) (tag_of the_type e) → m ≡ mark_named w e m
+pub named_else : (w : ℕ) (e : ExpressionEntry) (m : List ℕ) → ((k : ℕ) → e ≡ ExpressionEntry.Code k → ⊥) → m ≡ mark_named w e m
 unfolding mark_named
 named_else w (ExpressionEntry.Integer v) m o = refl
 named_else w (ExpressionEntry.Literal k) m o = refl
 named_else w (ExpressionEntry.FromSelf j n) m o = refl
 named_else w (ExpressionEntry.FromProgram j n) m o = refl
-named_else w (ExpressionEntry.Code k) m o = absurd (miss (0 ∷ 1 ∷ 2 ∷ 3 ∷ 5 ∷ 6 ∷ 7 ∷ 8 ∷ []) 4 tt o)
+named_else w (ExpressionEntry.Code k) m o = absurd (o k refl)
 named_else w (ExpressionEntry.Frame d) m o = refl
 named_else w (ExpressionEntry.Not a) m o = refl
 named_else w (ExpressionEntry.Operate k a b) m o = refl

@@ -57,12 +57,12 @@ target_snoc frames v (y ∷ ys) z = target_cons frames v y ys z ∙ go (get fram
     go none ih = refl
     go (some u) ih = ih u
 
-none_came : (v : Value) (z : ℕ) → OneOf (0 ∷ 1 ∷ 2 ∷ []) (tag_of the_type v) → targeted PutTarget.NoRule ≡ came z v
+none_came : (v : Value) (z : ℕ) → ((k : ℕ) → v ≡ Value.Frame k → ⊥) → targeted PutTarget.NoRule ≡ came z v
 unfolding came frame_number machine.◌>>=◌
 none_came (Value.Int n) z e = refl
 none_came (Value.Text t) z e = refl
 none_came (Value.Code n) z e = refl
-none_came (Value.Frame f) z e = absurd (miss (0 ∷ 1 ∷ 2 ∷ []) 3 tt e)
+none_came (Value.Frame f) z e = absurd (e f refl)
 
 module _ (h p : List ℕ) (root : Value) (j n : ℕ) where
   pub target_empty : n ≡ 0 → targeted PutTarget.NoRule ≡ target_along (frames_held h) root (path_held p j n)
@@ -87,7 +87,7 @@ module _ (h p : List ℕ) (root : Value) (j n : ℕ) where
         unfolding defined machine.◌>>=◌
         target_came = rw (target_last, ← er, ev)
 
-        pub target_else : OneOf (0 ∷ 1 ∷ 2 ∷ []) (tag_of the_type v) → targeted PutTarget.NoRule ≡ target_along (frames_held h) root (path_held p j n)
+        pub target_else : ((k : ℕ) → v ≡ Value.Frame k → ⊥) → targeted PutTarget.NoRule ≡ target_along (frames_held h) root (path_held p j n)
         target_else e = rw target_came (none_came v (path_name p (j + (n - 1))) e)
 
         pub target_found : (f x : ℕ) → v ≡ Value.Frame f → x ≡ path_name p (j + (n - 1)) → targeted (PutTarget.At f x) ≡ target_along (frames_held h) root (path_held p j n)
@@ -103,7 +103,7 @@ module _ (h p : List ℕ) (root : Value) (j n : ℕ) where
     not_empty : n ≡ 0 → ⊥
     not_empty e = omega arith
 
-    pub one_else : OneOf (0 ∷ 1 ∷ 2 ∷ []) (tag_of the_type root) → targeted PutTarget.NoRule ≡ target_along (frames_held h) root (path_held p j n)
+    pub one_else : ((k : ℕ) → root ≡ Value.Frame k → ⊥) → targeted PutTarget.NoRule ≡ target_along (frames_held h) root (path_held p j n)
     one_else e = target_else not_empty (Fetched.Found root) stays root refl e
 
     pub one_found : (f x : ℕ) → root ≡ Value.Frame f → x ≡ path_name p (j + 0) → targeted (PutTarget.At f x) ≡ target_along (frames_held h) root (path_held p j n)
@@ -148,15 +148,15 @@ module _ (h : List ℕ) (f x : ℕ) where
           go true = refl
           go false = refl
 
-      pub end_found : OneOf (0 ∷ []) (tag_of slot-type r) → 0 ≡ slot_end (get_elem? (frames_held h) f) x
+      pub end_found : (r ≡ SlotFound.Missing → ⊥) → 0 ≡ slot_end (get_elem? (frames_held h) f) x
       end_found o = rw end_used (go r er o)
         where
           at : (i : ℕ) → SlotFound.At i ≡ slot_from (slots_held h f) x 0 → ◌≡◌ {A = ℕ} 0 (pick (has_place (new_frame (maker_at h f) (slots_held h f)) x) 0 35)
           at i e = rw (place_found (maker_at h f) (slots_held h f) x _ ((slot_hit (slots_held h f) x (SlotFound.At i) e i refl).value (slot_held h f i)))
 
-          go : (q : SlotFound) → q ≡ slot_from (slots_held h f) x 0 → OneOf (0 ∷ []) (tag_of slot-type q) → ◌≡◌ {A = ℕ} 0 (pick (has_place (new_frame (maker_at h f) (slots_held h f)) x) 0 35)
+          go : (q : SlotFound) → q ≡ slot_from (slots_held h f) x 0 → (q ≡ SlotFound.Missing → ⊥) → ◌≡◌ {A = ℕ} 0 (pick (has_place (new_frame (maker_at h f) (slots_held h f)) x) 0 35)
           go (SlotFound.At i) e k = at i e
-          go SlotFound.Missing e k = absurd (miss (0 ∷ []) 1 tt k)
+          go SlotFound.Missing e k = absurd (k refl)
 
       module _ (e : r ≡ SlotFound.Missing) (n : ℕ) (en : n ≡ slot_count_at h f) where
         place_missing : has_place (new_frame (maker_at h f) (slots_held h f)) x ≡ ltb n 16

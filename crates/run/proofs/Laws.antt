@@ -178,15 +178,15 @@ module _ (p l : List ℕ) (fuel : ℕ) (h₀ t₀ out₀ : List ℕ) where
                 ∙ run_attempts p l h t out used (sym ee ∙ unmarked) (z - 1) at (fuel - (steps + 1))
                 ∙ ap (after_attempt (λ h t out used. run_from p l (fuel - (steps + 1)) h t out used) used) a.exact
 
-            pub returns_stopped : (why : Stop) → OneOf (0 ∷ 1 ∷ []) (tag_of the_type o) → why ≡ stop_after o → Runs p l fuel h₀ t₀ out₀ (reported why steps used) h' t' out'
+            pub returns_stopped : (why : Stop) → ((k : ℕ) → o ≡ Outcome.Made k → ⊥) → why ≡ stop_after o → Runs p l fuel h₀ t₀ out₀ (reported why steps used) h' t' out'
             unfolding by_outcome stop_after
             returns_stopped why other ew = stops_then why h' t' out' (tried ∙ go o other ew)
               where
-                go : (x : Outcome) → OneOf (0 ∷ 1 ∷ []) (tag_of the_type x) → why ≡ stop_after x →
+                go : (x : Outcome) → ((k : ℕ) → x ≡ Outcome.Made k → ⊥) → why ≡ stop_after x →
                     by_outcome (λ h t out used. run_from p l (fuel - (steps + 1)) h t out used) used x h' t' out' ≡ finished why used h' t' out'
                 go (Outcome.Ended k) x w = rw w
                 go Outcome.NoSpace x w = rw w
-                go (Outcome.Made k) x w = absurd (miss (0 ∷ 1 ∷ []) 2 tt x)
+                go (Outcome.Made k) x w = absurd (x k refl)
 
             module _ (n : ℕ) (eo : o ≡ Outcome.Made n) where
               made : StepMade p l h t out used n h' t' out'

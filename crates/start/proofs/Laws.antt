@@ -48,13 +48,13 @@ module _ (f g : List Token → Option (List Token)) (s : List ℕ) (at : ℕ) wh
 
 -- nothing to take where there is none
 module _ (s : List ℕ) (at k : ℕ) (t : TokenRead) (found : TokenAt class s at t) where
-  took_none : (u : TokenRead) → t ≡ u → OneOf (0 ∷ 1 ∷ []) (tag_of the_type u) → Leads (after_kind k) s at Found.Refused
+  took_none : (u : TokenRead) → t ≡ u → ((k : ℕ) (n : ℕ) (i : ℕ) (j : ℕ) → u ≡ TokenRead.Token k n i j → ⊥) → Leads (after_kind k) s at Found.Refused
   unfolding after_kind
   took_none TokenRead.End e o = record { is = λ ts f. rw ((go_end (λ us. us) s at (λ us. us) at (go_start _ s at) t found e).gives ts f) nowhere }
   took_none TokenRead.NoToken e o = record { is = λ ts f. rw ((go_none (λ us. us) s at (λ us. us) at (go_start _ s at) t found e []).gives ts f) nowhere }
-  took_none (TokenRead.Token j a p w) e o = absurd (miss (0 ∷ 1 ∷ []) 2 tt o)
+  took_none (TokenRead.Token j a p w) e o = absurd (o j a p w refl)
 
-  pub take_none : OneOf (0 ∷ 1 ∷ []) (tag_of the_type t) → Leads (after_kind k) s at Found.Refused
+  pub take_none : ((k : ℕ) (n : ℕ) (i : ℕ) (j : ℕ) → t ≡ TokenRead.Token k n i j → ⊥) → Leads (after_kind k) s at Found.Refused
   take_none o = took_none t refl o
 
   module _ (j a p w : ℕ) (e : t ≡ TokenRead.Token j a p w) where

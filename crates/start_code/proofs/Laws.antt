@@ -77,31 +77,31 @@ module _ (p : List ℕ) (z : ℕ) (ne : z ≡ 0 → ⊥) (e : ExpressionEntry) (
   unfolding entry_code
   number_here k is = rw is at number_by_entry
 
-  pub slots_other : OneOf (0 ∷ 1 ∷ 2 ∷ 3 ∷ 4 ∷ 6 ∷ 7 ∷ 8 ∷ []) (tag_of the_type e) → 0 ≡ frame_slots p z
+  pub slots_other : ((k : ℕ) → e ≡ ExpressionEntry.Frame k → ⊥) → 0 ≡ frame_slots p z
   unfolding entry_slots
   slots_other o = go e o ∙ slots_by_entry
     where
-      go : (x : ExpressionEntry) → OneOf (0 ∷ 1 ∷ 2 ∷ 3 ∷ 4 ∷ 6 ∷ 7 ∷ 8 ∷ []) (tag_of the_type x) → 0 ≡ entry_slots (z - 1) x
+      go : (x : ExpressionEntry) → ((k : ℕ) → x ≡ ExpressionEntry.Frame k → ⊥) → 0 ≡ entry_slots (z - 1) x
       go (ExpressionEntry.Integer w) o = refl
       go (ExpressionEntry.Literal k) o = refl
       go (ExpressionEntry.FromSelf j n) o = refl
       go (ExpressionEntry.FromProgram j n) o = refl
       go (ExpressionEntry.Code k) o = refl
-      go (ExpressionEntry.Frame d) o = absurd (miss (0 ∷ 1 ∷ 2 ∷ 3 ∷ 4 ∷ 6 ∷ 7 ∷ 8 ∷ []) 5 tt o)
+      go (ExpressionEntry.Frame d) o = absurd (o d refl)
       go (ExpressionEntry.Not a) o = refl
       go (ExpressionEntry.Operate k a b) o = refl
       go ExpressionEntry.Bad o = refl
 
-  pub number_other : OneOf (0 ∷ 1 ∷ 2 ∷ 3 ∷ 5 ∷ 6 ∷ 7 ∷ 8 ∷ []) (tag_of the_type e) → 0 ≡ code_number p z
+  pub number_other : ((k : ℕ) → e ≡ ExpressionEntry.Code k → ⊥) → 0 ≡ code_number p z
   unfolding entry_code
   number_other o = go e o ∙ number_by_entry
     where
-      go : (x : ExpressionEntry) → OneOf (0 ∷ 1 ∷ 2 ∷ 3 ∷ 5 ∷ 6 ∷ 7 ∷ 8 ∷ []) (tag_of the_type x) → 0 ≡ entry_code x
+      go : (x : ExpressionEntry) → ((k : ℕ) → x ≡ ExpressionEntry.Code k → ⊥) → 0 ≡ entry_code x
       go (ExpressionEntry.Integer w) o = refl
       go (ExpressionEntry.Literal k) o = refl
       go (ExpressionEntry.FromSelf j n) o = refl
       go (ExpressionEntry.FromProgram j n) o = refl
-      go (ExpressionEntry.Code k) o = absurd (miss (0 ∷ 1 ∷ 2 ∷ 3 ∷ 5 ∷ 6 ∷ 7 ∷ 8 ∷ []) 4 tt o)
+      go (ExpressionEntry.Code k) o = absurd (o k refl)
       go (ExpressionEntry.Frame d) o = refl
       go (ExpressionEntry.Not a) o = refl
       go (ExpressionEntry.Operate k a b) o = refl

@@ -182,7 +182,7 @@ module _ (h : List ℕ) (f x : ℕ) (v : Value) (lt : f < 256) (r : SlotFound) (
   pub slot_set : (i : ℕ) (h' : List ℕ) → r ≡ SlotFound.At i → h' ≡ set_slot_value h f i v → PutsSlot h f x v 0 h'
   slot_set i h' is eh = record { end = go (frame_used h f) refl; words = put_sets h f x v r er h' i is eh }
     where
-      here : OneOf (0 ∷ []) (tag_of the_type r)
+      here : (r ≡ SlotFound.Missing → ⊥)
       here = rw is (hit (0 ∷ []) 0 tt)
 
       go : (b : Bool) → b ≡ frame_used h f → 0 ≡ slot_end (get_elem? (frames_held h) f) x

@@ -226,8 +226,8 @@ module _ (p l h t : List ℕ) (x : ℕ) where
           go (no ne) = rw (ne_eqb k 12 ne) (operated_gives few k a b at ne)
 
       -- by the tag: neither frame literal nor operation
-      base_gives : (e : ExpressionEntry) → e ≡ expression_at p x → OneOf (0 ∷ 1 ∷ 2 ∷ 3 ∷ 4 ∷ 6 ∷ 7 ∷ 8 ∷ []) (tag_of the_type e)
-          → OneOf (0 ∷ 1 ∷ 2 ∷ 3 ∷ 4 ∷ 5 ∷ 6 ∷ 8 ∷ []) (tag_of the_type e) → ((d : ℕ) → e ≡ ExpressionEntry.Frame d → ⊥)
+      base_gives : (e : ExpressionEntry) → e ≡ expression_at p x → ((k : ℕ) → e ≡ ExpressionEntry.Frame k → ⊥)
+          → ((k : ℕ) (n : ℕ) (i : ℕ) → e ≡ ExpressionEntry.Operate k n i → ⊥) → ((d : ℕ) → e ≡ ExpressionEntry.Frame d → ⊥)
           → Still p x → single_end p l h t x e ≡ end_of (operand_value p h x) → read_entry p h x e ≡ value_given (operand_value p h x) → Gives (of_base (operand_value p h x))
       base_gives e at f o nf s q r = plain s (sym q ∙ single_is p l h t x checks e at f) (rw r at (read_made p l h t x w there e (sym at) nf o))
 

@@ -55,11 +55,11 @@ module _ (w : Result Value) where
   unfolding end_of ◌>>=◌ value_end
   value_undefined = refl
 
-  value_other : (v : Value) → OneOf (0 ∷ 1 ∷ 3 ∷ []) (tag_of the_type v) → value_end (gives v) w ≡ 31
+  value_other : (v : Value) → ((k : ℕ) → v ≡ Value.Code k → ⊥) → value_end (gives v) w ≡ 31
   unfolding end_of ◌>>=◌ code_number value_end jumped
   value_other (Value.Int z) e = refl
   value_other (Value.Text t) e = refl
-  value_other (Value.Code k) e = absurd (miss (0 ∷ 1 ∷ 3 ∷ []) 2 tt e)
+  value_other (Value.Code k) e = absurd (e k refl)
   value_other (Value.Frame n) e = refl
 
 value_code : (k : ℕ) (w : Result Value) → value_end (gives (Value.Code k)) w ≡ end_of w
@@ -89,7 +89,7 @@ module _ (p h : List ℕ) (a c : ℕ) where
     jump_undefined e = rw (jump_open, ← er, e) (sym (value_undefined (operand_value p h c)))
 
     module _ (v : Value) (ev : r ≡ Fetched.Found v) where
-      pub jump_other : OneOf (0 ∷ 1 ∷ 3 ∷ []) (tag_of the_type v) → 31 ≡ jump_end p h a c
+      pub jump_other : ((k : ℕ) → v ≡ Value.Code k → ⊥) → 31 ≡ jump_end p h a c
       unfolding defined
       jump_other k = rw (jump_open, ← er, ev) (sym (value_other (operand_value p h c) v k))
 

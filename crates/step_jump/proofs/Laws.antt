@@ -25,7 +25,7 @@ module _ (p l h : List ℕ) (a c : ℕ) (can : CanJump p l h a c) (r : Fetched) 
   jump_nothing e = ended (ends.jump_undefined p h a c r er e) (jump_none p l h a c can r er e)
 
   module _ (v : Value) (ev : r ≡ Fetched.Found v) where
-    pub jump_other : OneOf (0 ∷ 1 ∷ 3 ∷ []) (tag_of the_type v) → JumpsOnce p l h a c 31 h
+    pub jump_other : ((k : ℕ) → v ≡ Value.Code k → ⊥) → JumpsOnce p l h a c 31 h
     jump_other o = ended (ends.jump_other p h a c r er v ev o) (jump_no_code p l h a c can r er v ev o)
 
     module _ (k : ℕ) (ek : v ≡ Value.Code k) (q : Fetched) (eq : defined (fetched q) ≡ operand_value p h c) where

@@ -52,16 +52,16 @@ module _ (bs out : List ℕ) (used n : ℕ) (out' : List ℕ) (w : WritesLine bs
 
 module _ (p l h t : List ℕ) (i : ℕ) (out : List ℕ) (used : ℕ) (can : CanShow p l h t i out used) (e : InstructionEntry) (ee : e ≡ instruction_at p i) where
   -- no line
-  none : (e : InstructionEntry) → instruction_at p i ≡ e → OneOf (0 ∷ 1 ∷ 3 ∷ 4 ∷ 5 ∷ []) (tag_of the_type e) → line_held p l h t i ≡ []
+  none : (e : InstructionEntry) → instruction_at p i ≡ e → ((k : ℕ) → e ≡ InstructionEntry.Show k → ⊥) → line_held p l h t i ≡ []
   unfolding line_held line
   none (InstructionEntry.AssignSelf j n x) q k = rw (assign_self_held p l can.program i can.there j n x q)
   none (InstructionEntry.AssignProgram j n x) q k = rw (assign_program_held p l can.program i can.there j n x q)
-  none (InstructionEntry.Show a) q k = absurd (miss (0 ∷ 1 ∷ 3 ∷ 4 ∷ 5 ∷ []) 2 tt k)
+  none (InstructionEntry.Show a) q k = absurd (k a refl)
   none (InstructionEntry.Jump a c) q k = rw (jump_held p l can.program i can.there a c q)
   none (InstructionEntry.Ifeq a c d) q k = rw (ifeq_held p l can.program i can.there a c d q)
   none InstructionEntry.Bad q k = absurd ((can.program.entries.instruction i can.there).formed q)
 
-  pub show_none : OneOf (0 ∷ 1 ∷ 3 ∷ 4 ∷ 5 ∷ []) (tag_of the_type e) → Shows p l h t i out used (Shown.Written 0) out
+  pub show_none : ((k : ℕ) → e ≡ InstructionEntry.Show k → ⊥) → Shows p l h t i out used (Shown.Written 0) out
   unfolding show_line splice
   show_none o = record { exact = rw (none e (sym ee) o, le-leb 0 (length out - used) (omega arith)) }
 

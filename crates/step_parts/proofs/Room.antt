@@ -41,7 +41,7 @@ module _ (p h : List ℕ) (i : ℕ) (k : Known) (w : RoomFor p h i k) where
   room_texts = room_full.texts
 
 -- an entry that is no show, by its tag
-quiet : (e : InstructionEntry) → ((a : ℕ) → e ≡ InstructionEntry.Show a → ⊥) → OneOf (0 ∷ 1 ∷ 3 ∷ 4 ∷ 5 ∷ []) (tag_of the_type e)
+quiet : (e : InstructionEntry) → ((a : ℕ) → e ≡ InstructionEntry.Show a → ⊥) → ((k : ℕ) → e ≡ InstructionEntry.Show k → ⊥)
 quiet (InstructionEntry.AssignSelf j n x) ns = hit (0 ∷ 1 ∷ 3 ∷ 4 ∷ 5 ∷ []) 0 tt
 quiet (InstructionEntry.AssignProgram j n x) ns = hit (0 ∷ 1 ∷ 3 ∷ 4 ∷ 5 ∷ []) 1 tt
 quiet (InstructionEntry.Show a) ns = absurd (ns a refl)

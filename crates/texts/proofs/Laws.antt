@@ -176,9 +176,9 @@ pub texts_compared : (lits made : List (List ℕ)) (x y : Text) (a b : List ℕ)
 unfolding same_texts
 texts_compared lits made x y a b r e ea eb = rw (e, ea, eb)
 
-pub truth_else : (v : Value) → OneOf (1 ∷ 2 ∷ 3 ∷ []) (tag_of the_type v) → true ≡ truth v
+pub truth_else : (v : Value) → ((k : ℤ) → v ≡ Value.Int k → ⊥) → true ≡ truth v
 unfolding truth
-truth_else (Value.Int n) e = absurd (miss (1 ∷ 2 ∷ 3 ∷ []) 0 tt e)
+truth_else (Value.Int n) e = absurd (e n refl)
 truth_else (Value.Text t) e = refl
 truth_else (Value.Code n) e = refl
 truth_else (Value.Frame f) e = refl

@@ -167,11 +167,11 @@ program_form p l =
 -- what is no base is written as 0
 pub other_base : (r : Readers) (p : List ℕ) (e : ExpressionEntry) → OneOf (5 ∷ 6 ∷ 7 ∷ 8 ∷ []) (tag_of the_type e) → base_tree r p e ≡ no_base
 unfolding base_tree
-other_base r p (ExpressionEntry.Integer w) k = absurd (miss (5 ∷ 6 ∷ 7 ∷ 8 ∷ []) 0 tt k)
-other_base r p (ExpressionEntry.Literal n) k = absurd (miss (5 ∷ 6 ∷ 7 ∷ 8 ∷ []) 1 tt k)
-other_base r p (ExpressionEntry.FromSelf j n) k = absurd (miss (5 ∷ 6 ∷ 7 ∷ 8 ∷ []) 2 tt k)
-other_base r p (ExpressionEntry.FromProgram j n) k = absurd (miss (5 ∷ 6 ∷ 7 ∷ 8 ∷ []) 3 tt k)
-other_base r p (ExpressionEntry.Code n) k = absurd (miss (5 ∷ 6 ∷ 7 ∷ 8 ∷ []) 4 tt k)
+other_base r p (ExpressionEntry.Integer w) k = absurd (k w refl)
+other_base r p (ExpressionEntry.Literal n) k = absurd (k n refl)
+other_base r p (ExpressionEntry.FromSelf j n) k = absurd (k j n refl)
+other_base r p (ExpressionEntry.FromProgram j n) k = absurd (k j n refl)
+other_base r p (ExpressionEntry.Code n) k = absurd (k n refl)
 other_base r p (ExpressionEntry.Frame d) k = refl
 other_base r p (ExpressionEntry.Not a) k = refl
 other_base r p (ExpressionEntry.Operate o a b) k = refl
@@ -186,9 +186,9 @@ other_expression r p x (ExpressionEntry.Literal n) k = refl
 other_expression r p x (ExpressionEntry.FromSelf j n) k = refl
 other_expression r p x (ExpressionEntry.FromProgram j n) k = refl
 other_expression r p x (ExpressionEntry.Code n) k = refl
-other_expression r p x (ExpressionEntry.Frame d) k = absurd (miss (0 ∷ 1 ∷ 2 ∷ 3 ∷ 4 ∷ 8 ∷ []) 5 tt k)
-other_expression r p x (ExpressionEntry.Not a) k = absurd (miss (0 ∷ 1 ∷ 2 ∷ 3 ∷ 4 ∷ 8 ∷ []) 6 tt k)
-other_expression r p x (ExpressionEntry.Operate o a b) k = absurd (miss (0 ∷ 1 ∷ 2 ∷ 3 ∷ 4 ∷ 8 ∷ []) 7 tt k)
+other_expression r p x (ExpressionEntry.Frame d) k = absurd (k d refl)
+other_expression r p x (ExpressionEntry.Not a) k = absurd (k a refl)
+other_expression r p x (ExpressionEntry.Operate o a b) k = absurd (k o a b refl)
 other_expression r p x ExpressionEntry.Bad k = refl
 
 -- ---- What is no frame is written outside code as it is in code
@@ -202,7 +202,7 @@ module _ (p l ns : List ℕ) where
   same_base (Base.path (from_program q)) = refl
   same_base (Base.code k is) = refl
 
-  pub same_expression : (r : Readers) (y : ℕ) (inner : Place) (e : ExpressionEntry) → OneOf (0 ∷ 1 ∷ 2 ∷ 3 ∷ 4 ∷ 6 ∷ 7 ∷ 8 ∷ []) (tag_of the_type e)
+  pub same_expression : (r : Readers) (y : ℕ) (inner : Place) (e : ExpressionEntry) → ((k : ℕ) → e ≡ ExpressionEntry.Frame k → ⊥)
       → expression_led p l (outside_code ns) inner (expression_tree r p y e) ≡ expression_led p l (in_code ns) (in_code ns) (expression_tree r p y e)
   unfolding expression_tree Writer holder within_code
   same_expression r y inner (ExpressionEntry.Integer w) k = refl
@@ -210,7 +210,7 @@ module _ (p l ns : List ℕ) where
   same_expression r y inner (ExpressionEntry.FromSelf j n) k = refl
   same_expression r y inner (ExpressionEntry.FromProgram j n) k = refl
   same_expression r y inner (ExpressionEntry.Code n) k = refl
-  same_expression r y inner (ExpressionEntry.Frame d) k = absurd (miss (0 ∷ 1 ∷ 2 ∷ 3 ∷ 4 ∷ 6 ∷ 7 ∷ 8 ∷ []) 5 tt k)
+  same_expression r y inner (ExpressionEntry.Frame d) k = absurd (k d refl)
   same_expression r y inner (ExpressionEntry.Not a) k = rw (same_base (r.base a))
   same_expression r y inner (ExpressionEntry.Operate o a b) k = rw (same_base (r.base a), same_base (r.base b))
   same_expression r y inner ExpressionEntry.Bad k = refl

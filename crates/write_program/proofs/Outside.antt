@@ -40,7 +40,7 @@ module _ {p l g m : List ℕ} {limit at d y : ℕ} (w : CanWrite p l m limit at)
   pub outside_count : d ≡ length (take d g)
   outside_count = sym (length-take-le d g outside_within)
 
-  pub outside_plain : OneOf (0 ∷ 1 ∷ 2 ∷ 3 ∷ 4 ∷ 6 ∷ 7 ∷ 8 ∷ []) (tag_of the_type e) → {m₁ : List ℕ} {a : ℕ}
+  pub outside_plain : ((k : ℕ) → e ≡ ExpressionEntry.Frame k → ⊥) → {m₁ : List ℕ} {a : ℕ}
       → Appended m limit at (expression_text p l (in_code (take d g)) (in_code (take d g)) y) m₁ a → OutsideAppended g d m limit at (outside_text p l (take d g) y) g m₁ a
   unfolding outside_text expression_text
   outside_plain k x =
