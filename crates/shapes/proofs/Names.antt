@@ -158,7 +158,8 @@ module _ (T : List (List ℕ)) (L : ℕ) where
   unfolding names_after numbered literals
   ordered table [] s c a e l = Ordered.done {s = s} (omega arith)
   ordered table (Token.name w ∷ ts) s c (AllShaped.more t a) e l =
-      Ordered.name (subst (λ (u : List (List ℕ)). Known u w) e (known_more _ ts w (go (any (same w) table) refl))).below (ordered _ ts s c a e l)
+      Ordered.name (subst (λ (u : List (List ℕ)). Known u w) e (known_more (if any (same w) table then table else table ++ (w ∷ [])) ts w (go (any (same w) table) refl))).below
+      (ordered (if any (same w) table then table else table ++ (w ∷ [])) ts s c a e l)
     where
       go : (t : Bool) → any (same w) table ≡ t → Known (if t then table else table ++ (w ∷ [])) w
       go true q = known_any table w q

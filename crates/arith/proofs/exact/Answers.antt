@@ -14,5 +14,5 @@ overflow_cast-result c = rw (to_z-of_z c.ranges.n) (record { sfits = small c.arg
 
 pub returns : goal.returns
 returns c =
-    exact_inside _ _ (to_z-of_z (cast-t3 c) ∙ to_z-of_z c.ranges.n)
+    exact_inside _ _ (to_z-of_z (overflow_cast-result c) ∙ to_z-of_z c.ranges.n)
     (low c.ranges.n c.if-n-ltminus2147483648.false) (high c.ranges.n c.if-n-gt2147483647.false)

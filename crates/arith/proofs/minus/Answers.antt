@@ -14,4 +14,4 @@ pub overflow_sub-a : goal.overflow_sub-a
 overflow_sub-a c = rw (wide c.ranges.a, wide c.ranges.b) (sub_fits c.ranges.a c.ranges.b)
 
 pub returns : goal.returns
-returns c = c.exact.ensures ∙ ap ranged (to_z-of_z (sub-exact c) ∙ rw (wide c.ranges.a, wide c.ranges.b))
+returns c = c.exact.ensures ∙ ap ranged (to_z-of_z (overflow_sub-a c) ∙ rw (wide c.ranges.a, wide c.ranges.b))

@@ -5,8 +5,6 @@ use Rattle.arith.proofs.Wide.{widens, wide, quot_fits}
 use Rattle.arith.proofs.Laws.{over_zero, over_some, wide_bits}
 use Rattle.arith.proofs.over.Goals as goal
 
-)
-
 pub returns-then-b-eq0 : goal.returns-then-b-eq0
 returns-then-b-eq0 c = over_zero c.args.a c.args.b c.ranges.b.sfits c.if-b-eq0.true
 
@@ -20,8 +18,9 @@ pub nonzero_div-a : goal.nonzero_div-a
 nonzero_div-a c = (
   rw (to_z-of_z c.ranges.b) (wide_bits c.args.b c.ranges.b.sfits c.if-b-eq0.false),
   rw (wide c.ranges.a, wide c.ranges.b) (quot_fits c.ranges.a c.ranges.b),
+)
 
 pub returns : goal.returns
 returns c =
     rw (over_some c.args.a c.args.b c.if-b-eq0.false)
-    (c.exact.ensures ∙ ap ranged (to_z-of_z (div-exact c).1 ∙ rw (wide c.ranges.a, wide c.ranges.b)))
+    (c.exact.ensures ∙ ap ranged (to_z-of_z (nonzero_div-a c).1 ∙ rw (wide c.ranges.a, wide c.ranges.b)))

@@ -14,4 +14,4 @@ pub overflow_add-a : goal.overflow_add-a
 overflow_add-a c = rw (wide c.ranges.a, wide c.ranges.b) (add_fits c.ranges.a c.ranges.b)
 
 pub returns : goal.returns
-returns c = c.exact.ensures ∙ ap ranged (to_z-of_z (add-exact c) ∙ rw (wide c.ranges.a, wide c.ranges.b))
+returns c = c.exact.ensures ∙ ap ranged (to_z-of_z (overflow_add-a c) ∙ rw (wide c.ranges.a, wide c.ranges.b))

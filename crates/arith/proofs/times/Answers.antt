@@ -14,4 +14,4 @@ pub overflow_mul-a : goal.overflow_mul-a
 overflow_mul-a c = rw (wide c.ranges.a, wide c.ranges.b) (mul_fits c.ranges.a c.ranges.b)
 
 pub returns : goal.returns
-returns c = c.exact.ensures ∙ ap ranged (to_z-of_z (mul-exact c) ∙ rw (wide c.ranges.a, wide c.ranges.b))
+returns c = c.exact.ensures ∙ ap ranged (to_z-of_z (overflow_mul-a c) ∙ rw (wide c.ranges.a, wide c.ranges.b))

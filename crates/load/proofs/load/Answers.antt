@@ -3,8 +3,6 @@ use Rattle.load.proofs.Laws.{loaded_kept, load_can_install, refused_exact, refus
 use borrow.Author.Rules.{rules}
 use Rattle.load.proofs.load.Goals as goal
 
-)
-
 pub check-answer-requires : goal.check-answer-requires
 check-answer-requires c = record { cached = search fresh; unnoted = search fresh_unnoted; sized = search rules; placed = search rules }
 
@@ -15,6 +13,7 @@ pub install-requires : goal.install-requires
 install-requires c = (
   search rules,
   (search (loaded_kept, c.check-answer.ensures.kept, c.enum_told-1.given), load_can_install _ _ _ _ _ _ _ c.check-answer.result c.check-answer.ensures.number (search c.enum_told-1.given)),
+)
 
 pub returns : goal.returns
 returns c = record { exact = search loaded_exact; meaning = search loaded_means }

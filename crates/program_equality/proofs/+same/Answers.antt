@@ -12,50 +12,6 @@ use Rattle.program_equality.proofs.Loops.{two_slots}
 use Prim.Native.Nat.{◌+◌}
 use Rattle.program_equality.proofs.+same.Goals as goal
 
-}
-
-}
-
-pub +same-base-same-expression-same-instruction-same-list-same-slots-same-three-same-two-spec :
-    {M : Type 1} → statement M
-+same-base-same-expression-same-instruction-same-list-same-slots-same-three-same-two-spec =
-    close
-    μ_same_base
-    μ_same_expression
-    μ_same_instruction
-    μ_same_list
-    μ_same_slots
-    μ_same_three
-    μ_same_two
-    (λ t. same-base-lts.spec (same_base_calls t) (same_base_at t) same_base.Post (λ c κs. search rules) (λ c κs. search rules) (same_base_returns t)
-    (λ c κs. search rules) (λ c κs. search rules) (same_base_returns_2 t) (same_base_same_literal_bytes_requires t) (same_base_returns_3 t)
-    (λ c κs. search rules) (λ c κs. search rules) (same_base_same_list_requires t) (same_base_returns_4 t) (λ c κs. search rules)
-    (λ c κs. search rules) (same_base_same_names_requires t) (same_base_returns_5 t))
-    (λ t. same-expression-lts.spec (same_expression_calls t) (same_expression_at t) same_expression.Post (λ c κs. search rules) (λ c κs. search rules)
-    (same_expression_returns t) (same_expression_same_base_requires t) (same_expression_returns_2 t) (λ c κs. search rules)
-    (λ c κs. search rules) (λ c κs. search rules) (λ c κs. search rules) (same_expression_same_slots_requires t) (same_expression_returns_3 t)
-    (same_expression_same_base_requires_2 t) (same_expression_returns_4 t) (λ c κs. search rules) (λ c κs. search rules)
-    (same_expression_same_two_requires t) (same_expression_returns_5 t))
-    (λ t. same-instruction-lts.spec (same_instruction_calls t) (same_instruction_at t) same_instruction.Post (λ c κs. search rules)
-    (λ c κs. search rules) (same_instruction_returns t) (λ c κs. search rules) (λ c κs. search rules) (same_instruction_same_base_requires t)
-    (same_instruction_returns_2 t) (λ c κs. search rules) (λ c κs. search rules) (same_instruction_same_two_requires t)
-    (same_instruction_returns_3 t) (λ c κs. search rules) (λ c κs. search rules) (same_instruction_same_three_requires t)
-    (same_instruction_returns_4 t) (same_instruction_same_names_requires t) (same_instruction_returns_5 t)
-    (same_instruction_same_expression_requires t) (same_instruction_returns_6 t))
-    (λ t. same-list-lts.spec (same_list_calls t) (same_list_at t) same-list.Post same_list_Inv_loop same_list_μ_loop (same_list_loop_holds t)
-    (same_list_returns t) (λ c. omega arith) (λ c. omega arith) (same_list_same_instruction_requires t) (same_list_returns_2 t)
-    (λ c. omega arith) (λ c κs. search rules) (λ c. omega arith) (λ c κs. search rules) (same_list_loop_less t) (same_list_loop_again t)
-    (same_list_returns_3 t))
-    (λ t. same-slots-lts.spec (same_slots_calls t) (same_slots_at t) same_slots.Post same_slots_Inv_loop same_slots_μ_loop (same_slots_loop_holds t)
-    (same_slots_returns t) (λ c. omega arith) (λ c κs. search rules) (λ c. omega arith) (λ c κs. search rules) (same_slots_returns_2 t)
-    (λ c. omega arith) (λ c. omega arith) (same_slots_same_expression_requires t) (same_slots_returns_3 t) (λ c. omega arith)
-    (λ c κs. search rules) (λ c. omega arith) (λ c κs. search rules) (same_slots_loop_less t) (same_slots_loop_again t) (same_slots_returns_4 t)
-    )
-    (λ t. same-three-lts.spec (same_three_calls t) (same_three_at t) same-three.Post (same_three_same_two_requires t) (same_three_returns t)
-    (same_three_returns_2 t) (same_three_same_base_requires t) (same_three_returns_3 t)) λ t. same-two-lts.spec (same_two_calls t)
-    (same_two_at t) same-two.Post (same_two_same_base_requires t) (same_two_returns t) (same_two_returns_2 t) (same_two_same_base_requires_2 t)
-    (same_two_returns_3 t)
-
 pub same_base-returns-then-expression_kind-kind : goal.same_base-returns-then-expression_kind-kind
 same_base-returns-then-expression_kind-kind t c =
             base_apart c.requires.1 _ _ c.expression_kind-kind.ensures c.expression_kind.ensures c.if-expression_kind-kind.true

@@ -3,8 +3,6 @@ use borrow.Author.Rules.{rules}
 use Rattle.token.proofs.read_at.Goals as goal
 use Rattle.token.proofs.read_at.Goals.{else-b-eq45, then-b-eq45}
 
-}
-
 pub name_at-requires : goal.name_at-requires
 name_at-requires c = record { table = search rules; run = search name_begins }
 
@@ -24,6 +22,7 @@ pub negative_at-requires : goal.negative_at-requires
 negative_at-requires c = record {
   table = search rules;
   run = minus_begins _ _ _ _ _ c.byte_at-d.ensures c.class_in-j.ensures c.if-j-eq3.true zero_class;
+}
 
 pub returns-then-j-eq3 : goal.returns-then-j-eq3
 returns-then-j-eq3 c = search (read_a_negative, zero_class)
