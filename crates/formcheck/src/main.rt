@@ -3,7 +3,10 @@
 // value is no byte. A line of `made` is a memory (0 program words, 1 heap words, 2 literal bytes, 3 text bytes), a place and a value.
 #![tactic(auto)]
 
-ghost use Rattle.io.specs.Counts.{IsPrefixLen};
+ghost use Rattle.input.specs.Counts.{IsPrefixLen};
+
+use std::io;
+use std::rt::Files;
 
 const VALUES: [u32; 22] = [
     0, 1, 2, 3, 4, 5, 6, 7, 16, 17, 31, 37, 38, 65, 66, 128, 129, 256, 257, 1024, 1025, 4294967295,
@@ -92,82 +95,80 @@ fn well_formed_with(made: &[u8], memory: u32, place: u32, value: u32) -> bool {
     wellformed::well_formed(&p, &h, &l, &t)
 }
 
-fn write_verdict(made: &[u8], memory: u32, place: u32, value: u32) {
+fn write_verdict(
+    rt: &impl Print,
+    made: &[u8],
+    memory: u32,
+    place: u32,
+    value: u32,
+) -> io::Result<()> {
     if 1 < memory {
         if 255 < value {
-            print_output::put(b"-");
-            return;
+            return print_output::put(rt, b"-");
         }
     }
     if well_formed_with(made, memory, place, value) {
-        print_output::put(b"1");
-        return;
+        return print_output::put(rt, b"1");
     }
-    print_output::put(b"0");
+    print_output::put(rt, b"0")
 }
 
-fn write_memory(memory: u32) {
+fn write_memory(rt: &impl Print, memory: u32) -> io::Result<()> {
     if memory == 0 {
-        print_output::put(b"program ");
-        return;
+        return print_output::put(rt, b"program ");
     }
     if memory == 1 {
-        print_output::put(b"heap ");
-        return;
+        return print_output::put(rt, b"heap ");
     }
     if memory == 2 {
-        print_output::put(b"literal ");
-        return;
+        return print_output::put(rt, b"literal ");
     }
-    print_output::put(b"text ");
+    print_output::put(rt, b"text ")
 }
 
-fn write_place(made: &[u8], memory: u32, place: u32) {
-    write_memory(memory);
-    print_output::put_number(place);
-    print_output::put(b" ");
+fn write_place(rt: &impl Print, made: &[u8], memory: u32, place: u32) -> io::Result<()> {
+    write_memory(rt, memory)?;
+    print_output::put_number(rt, place)?;
+    print_output::put(rt, b" ")?;
     let mut i: usize = 0;
     while i < 22 {
-        write_verdict(made, memory, place, VALUES[i]);
+        write_verdict(rt, made, memory, place, VALUES[i])?;
         i += 1;
     }
-    print_output::put(b"\n");
+    print_output::put(rt, b"\n")
 }
 
-fn write_places(made: &[u8], places: &[u8]) {
+fn write_places(rt: &impl Print, made: &[u8], places: &[u8]) -> io::Result<()> {
     let mut at = 0;
     while at < places.len() {
         let memory = number_at(places, at);
         let place = number_at(places, memory.next);
-        write_place(made, memory.value, place.value);
+        write_place(rt, made, memory.value, place.value)?;
         if place.next <= at {
-            return;
+            return Ok(());
         }
         at = place.next;
     }
+    Ok(())
 }
 
 // The file's bytes in the buffer; how many.
-fn read_file(name: &[u8], buffer: &mut [u8]) -> usize
+fn read_file<R: Files + Eprint>(rt: &R, name: &[u8], buffer: &mut [u8]) -> usize
     ensures { IsPrefixLen result buffer.new }
 {
-    let fd = os::open_read(name);
-    if fd < 0 {
-        os::fail(name);
-        return 0;
+    match input::read_opened(rt, name, buffer) {
+        Some(n) => n,
+        None => 0,
     }
-    let n = io::read_full(fd, buffer);
-    libc::close(fd);
-    n
 }
 
-fn main() {
-    let mut made = io::large_buffer();
-    let n = read_file(b"made", &mut made);
-    let mut places = io::large_buffer();
-    let k = read_file(b"places", &mut places);
-    print_output::put(b"as made ");
-    write_verdict(&made[..n], 0, 16383, 0);
-    print_output::put(b"\n");
-    write_places(&made[..n], &places[..k]);
+fn main(rt: HostRuntime) -> io::Result<()> {
+    let mut made = [0u8; 65536];
+    let n = read_file(&rt, b"made", &mut made);
+    let mut places = [0u8; 65536];
+    let k = read_file(&rt, b"places", &mut places);
+    print_output::put(&rt, b"as made ")?;
+    write_verdict(&rt, &made[..n], 0, 16383, 0)?;
+    print_output::put(&rt, b"\n")?;
+    write_places(&rt, &made[..n], &places[..k])
 }

@@ -2,14 +2,20 @@
 #![tactic(auto)]
 
 use input::Input;
-use libc::STDIN_FILENO;
+use std::io;
 
-fn main() {
+fn main(rt: HostRuntime) -> io::Result<()> {
     let mut source = [0u8; 16385];
-    let Input::Bytes(n) = input::read_all(STDIN_FILENO, &mut source) else {
-        os::fail(b"standard input");
-        return;
+    let n = match input::read_all(&mut rt.stdin(), &mut source) {
+        Input::Bytes(n) => n,
+        Input::Failed(error) => {
+            input::fail(&rt, b"standard input", error);
+            return Ok(());
+        }
     };
     let mut out = [0u8; 4140];
-    print_output::put(printed_run::print(printing::front(&source, n), &mut out));
+    print_output::put(
+        &rt,
+        printed_run::print(printing::front(&source, n), &mut out),
+    )
 }

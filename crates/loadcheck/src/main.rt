@@ -4,54 +4,53 @@
 ghost use Rattle.std.specs.Prelude.{length};
 ghost use Rattle.loadcheck.specs.Lines.{Begins, Ends};
 
-fn print_count(word: &[u8], n: u32) {
-    print_output::put(word);
-    print_output::put_number(n);
+use std::io;
+use std::rt::Files;
+
+fn print_count(rt: &impl Print, word: &[u8], n: u32) -> io::Result<()> {
+    print_output::put(rt, word)?;
+    print_output::put_number(rt, n)
 }
 
 // The counts in program words and, of the written frames, in heap words: all frames in use but self.
-fn print_counts(p: &[u32], h: &[u32]) {
-    print_count(b" loaded: names ", tables::names(p));
-    print_count(b", instructions ", tables::instructions(p));
-    print_count(b", strings ", tables::literals(p));
-    print_count(b", codes ", tables::codes(p));
-    print_count(b", expressions ", tables::expressions(p));
-    print_count(b", path names ", tables::path_names(p));
+fn print_counts(rt: &impl Print, p: &[u32], h: &[u32]) -> io::Result<()> {
+    print_count(rt, b" loaded: names ", tables::names(p))?;
+    print_count(rt, b", instructions ", tables::instructions(p))?;
+    print_count(rt, b", strings ", tables::literals(p))?;
+    print_count(rt, b", codes ", tables::codes(p))?;
+    print_count(rt, b", expressions ", tables::expressions(p))?;
+    print_count(rt, b", path names ", tables::path_names(p))?;
     let frames = tables::number(heap::count_frames(h));
-    print_count(b", frames ", frames);
+    print_count(rt, b", frames ", frames)
 }
 
-fn print_answer(name: &[u8], n: u32, p: &[u32], h: &[u32]) {
-    print_output::put(name);
+fn print_answer(rt: &impl Print, name: &[u8], n: u32, p: &[u32], h: &[u32]) -> io::Result<()> {
+    print_output::put(rt, name)?;
     if n == 0 {
-        print_counts(p, h);
+        print_counts(rt, p, h)?;
     } else {
-        print_output::put(b" refused ");
-        print_output::put_number(n);
+        print_output::put(rt, b" refused ")?;
+        print_output::put_number(rt, n)?;
     }
-    print_output::put(b"\n");
+    print_output::put(rt, b"\n")
 }
 
-fn load_source(name: &[u8], source: &[u8]) {
+fn load_source(rt: &impl Print, name: &[u8], source: &[u8]) -> io::Result<()> {
     let mut p = [0u32; 16384];
     let mut h = [0u32; 16384];
     let mut l = [0u8; 8192];
     let mut t = [0u8; 16384];
     let a = load::load(source, 256, 256, &mut p, &mut h, &mut l, &mut t);
     let n = answers::load_number(a);
-    print_answer(name, n, &p, &h);
+    print_answer(rt, name, n, &p, &h)
 }
 
-fn load_file(name: &[u8]) {
-    let fd = os::open_read(name);
-    if fd < 0 {
-        os::fail(name);
-        return;
-    }
-    let mut buffer = io::large_buffer();
-    let n = io::read_full(fd, &mut buffer);
-    libc::close(fd);
-    load_source(name, &buffer[..n]);
+fn load_file<R: Files + Print + Eprint>(rt: &R, name: &[u8]) -> io::Result<()> {
+    let mut buffer = [0u8; 65536];
+    let Some(n) = input::read_opened(rt, name, &mut buffer) else {
+        return Ok(());
+    };
+    load_source(rt, name, &buffer[..n])
 }
 
 // Where the line that begins there ends.
@@ -69,26 +68,23 @@ fn line_end(index: &[u8], at: usize) -> usize
     i
 }
 
-fn load_files(index: &[u8]) {
+fn load_files<R: Files + Print + Eprint>(rt: &R, index: &[u8]) -> io::Result<()> {
     let mut at = 0;
     while at < index.len() {
         let end = line_end(index, at);
-        load_file(&index[at..end]);
+        load_file(rt, &index[at..end])?;
         if end == index.len() {
-            return;
+            return Ok(());
         }
         at = end + 1;
     }
+    Ok(())
 }
 
-fn main() {
-    let fd = os::open_read(b"index");
-    if fd < 0 {
-        os::fail(b"index");
-        return;
-    }
-    let mut buffer = io::large_buffer();
-    let n = io::read_full(fd, &mut buffer);
-    libc::close(fd);
-    load_files(&buffer[..n]);
+fn main(rt: HostRuntime) -> io::Result<()> {
+    let mut buffer = [0u8; 65536];
+    let Some(n) = input::read_opened(&rt, b"index", &mut buffer) else {
+        return Ok(());
+    };
+    load_files(&rt, &buffer[..n])
 }

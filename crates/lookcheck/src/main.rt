@@ -2,9 +2,11 @@
 // memory (0 program words, 1 heap words, 2 literal bytes, 3 text bytes), a place and a value.
 #![tactic(auto)]
 
-ghost use Rattle.io.specs.Counts.{IsPrefixLen};
+ghost use Rattle.input.specs.Counts.{IsPrefixLen};
 
 use framed::LookAnswer;
+use std::io;
+use std::rt::Files;
 
 // A number, and the place after the byte behind it.
 #[derive(Clone, Copy)]
@@ -77,31 +79,38 @@ fn make(made: &[u8], p: &mut [u32], h: &mut [u32], l: &mut [u8], t: &mut [u8]) {
     }
 }
 
-fn write_answer(a: LookAnswer) {
+fn write_answer(rt: &impl Print, a: LookAnswer) -> io::Result<()> {
     match a {
         LookAnswer::Integer(n) => {
-            print_output::put(b"integer ");
-            print_output::put_integer(n);
+            print_output::put(rt, b"integer ")?;
+            print_output::put_integer(rt, n)
         }
-        LookAnswer::Text => print_output::put(b"text"),
-        LookAnswer::Code => print_output::put(b"code"),
+        LookAnswer::Text => print_output::put(rt, b"text"),
+        LookAnswer::Code => print_output::put(rt, b"code"),
         LookAnswer::Frame(maker) => {
-            print_output::put(b"frame maker ");
-            print_output::put_number(maker);
+            print_output::put(rt, b"frame maker ")?;
+            print_output::put_number(rt, maker)
         }
-        LookAnswer::NotWellFormed => print_output::put(b"20"),
-        LookAnswer::NotPath => print_output::put(b"21"),
-        LookAnswer::Undefined => print_output::put(b"22"),
+        LookAnswer::NotWellFormed => print_output::put(rt, b"20"),
+        LookAnswer::NotPath => print_output::put(rt, b"21"),
+        LookAnswer::Undefined => print_output::put(rt, b"22"),
     }
 }
 
-fn write_look<'a>(p: &[u32], h: &[u32], l: &'a [u8], t: &'a [u8], path: &[u8]) {
-    print_output::put(path);
-    print_output::put(b" is ");
-    write_answer(look::look(p, h, l, t, path));
-    print_output::put(b" \"");
-    print_output::put(look::look_text(p, h, l, t, path));
-    print_output::put(b"\"\n");
+fn write_look<'a>(
+    rt: &impl Print,
+    p: &[u32],
+    h: &[u32],
+    l: &'a [u8],
+    t: &'a [u8],
+    path: &[u8],
+) -> io::Result<()> {
+    print_output::put(rt, path)?;
+    print_output::put(rt, b" is ")?;
+    write_answer(rt, look::look(p, h, l, t, path))?;
+    print_output::put(rt, b" \"")?;
+    print_output::put(rt, look::look_text(p, h, l, t, path))?;
+    print_output::put(rt, b"\"\n")
 }
 
 // Where a line ends.
@@ -116,58 +125,69 @@ fn line_end(s: &[u8], from: usize) -> usize {
     i
 }
 
-fn write_looks<'a>(p: &[u32], h: &[u32], l: &'a [u8], t: &'a [u8], paths: &[u8]) {
+fn write_looks<'a>(
+    rt: &impl Print,
+    p: &[u32],
+    h: &[u32],
+    l: &'a [u8],
+    t: &'a [u8],
+    paths: &[u8],
+) -> io::Result<()> {
     let mut at = 0;
     while at < paths.len() {
         let end = line_end(paths, at);
-        write_look(p, h, l, t, token::token_bytes(paths, at, end));
+        write_look(rt, p, h, l, t, token::token_bytes(paths, at, end))?;
         if end < at {
-            return;
+            return Ok(());
         }
         if paths.len() <= end {
-            return;
+            return Ok(());
         }
         at = end + 1;
     }
+    Ok(())
 }
 
 // As the memories are, then with another self.
-fn look_thrice<'a>(p: &[u32], h: &mut [u32], l: &'a [u8], t: &'a [u8], paths: &[u8]) {
-    write_looks(p, h, l, t, paths);
-    print_output::put(b"self is an integer\n");
+fn look_thrice<'a>(
+    rt: &impl Print,
+    p: &[u32],
+    h: &mut [u32],
+    l: &'a [u8],
+    t: &'a [u8],
+    paths: &[u8],
+) -> io::Result<()> {
+    write_looks(rt, p, h, l, t, paths)?;
+    print_output::put(rt, b"self is an integer\n")?;
     words::set_word(h, 0, 0);
     words::set_word(h, 1, 5);
-    write_looks(p, h, l, t, paths);
-    print_output::put(b"self is a frame that is not in use\n");
+    write_looks(rt, p, h, l, t, paths)?;
+    print_output::put(rt, b"self is a frame that is not in use\n")?;
     words::set_word(h, 0, 4);
     words::set_word(h, 1, 3);
-    write_looks(p, h, l, t, paths);
+    write_looks(rt, p, h, l, t, paths)
 }
 
 // The file's bytes in the buffer; how many.
-fn read_file(name: &[u8], buffer: &mut [u8]) -> usize
+fn read_file<R: Files + Eprint>(rt: &R, name: &[u8], buffer: &mut [u8]) -> usize
     ensures { IsPrefixLen result buffer.new }
 {
-    let fd = os::open_read(name);
-    if fd < 0 {
-        os::fail(name);
-        return 0;
+    match input::read_opened(rt, name, buffer) {
+        Some(n) => n,
+        None => 0,
     }
-    let n = io::read_full(fd, buffer);
-    libc::close(fd);
-    n
 }
 
-fn main() {
-    let mut made = io::large_buffer();
-    let n = read_file(b"made", &mut made);
-    let mut paths = io::large_buffer();
-    let k = read_file(b"paths", &mut paths);
+fn main(rt: HostRuntime) -> io::Result<()> {
+    let mut made = [0u8; 65536];
+    let n = read_file(&rt, b"made", &mut made);
+    let mut paths = [0u8; 65536];
+    let k = read_file(&rt, b"paths", &mut paths);
     let mut p = [0u32; 16384];
     let mut h = [0u32; 16384];
     let mut l = [0u8; 8192];
     let mut t = [0u8; 16384];
-    write_look(&p, &h, &l, &t, b"self");
+    write_look(&rt, &p, &h, &l, &t, b"self")?;
     make(&made[..n], &mut p, &mut h, &mut l, &mut t);
-    look_thrice(&p, &mut h, &l, &t, &paths[..k]);
+    look_thrice(&rt, &p, &mut h, &l, &t, &paths[..k])
 }

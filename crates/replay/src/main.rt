@@ -2,14 +2,16 @@
 #![tactic(auto)]
 
 use input::Input;
-use libc::STDIN_FILENO;
+use std::io;
 
-fn main() {
+fn main(rt: HostRuntime) -> io::Result<()> {
     let mut script = [0u8; 65537];
-    let Input::Bytes(n) = input::read_all(STDIN_FILENO, &mut script) else {
-        os::fail(b"standard input");
-        replaying::put_unfit(b"standard input");
-        return;
+    let n = match input::read_all(&mut rt.stdin(), &mut script) {
+        Input::Bytes(n) => n,
+        Input::Failed(error) => {
+            input::fail(&rt, b"standard input", error);
+            return replaying::put_unfit(&rt, b"standard input");
+        }
     };
-    replaying::replay(printing::front(&script, n));
+    replaying::replay(&rt, printing::front(&script, n))
 }

@@ -2,35 +2,44 @@
 #![tactic(auto)]
 
 use input::Input;
+use std::io;
+use std::rt::Files;
 
-fn replay_file(name: &[u8]) {
+fn replay_file<R: Files + Print + Eprint>(rt: &R, name: &[u8]) -> io::Result<()> {
     let mut script = [0u8; 65537];
-    let Input::Bytes(n) = input::read_file(name, &mut script) else {
-        os::fail(name);
-        return;
+    let n = match input::read_file(rt, name, &mut script) {
+        Input::Bytes(n) => n,
+        Input::Failed(error) => {
+            input::fail(rt, name, error);
+            return Ok(());
+        }
     };
-    print_output::put(name);
-    print_output::put(b"\n");
-    replaying::replay(printing::front(&script, n));
+    print_output::put(rt, name)?;
+    print_output::put(rt, b"\n")?;
+    replaying::replay(rt, printing::front(&script, n))
 }
 
-fn replay_files(index: &[u8]) {
+fn replay_files<R: Files + Print + Eprint>(rt: &R, index: &[u8]) -> io::Result<()> {
     let mut at = 0;
     while at < index.len() {
         let end = lines::line_end(index, at);
-        replay_file(&index[at..end]);
+        replay_file(rt, &index[at..end])?;
         if end == index.len() {
-            return;
+            return Ok(());
         }
         at = end + 1;
     }
+    Ok(())
 }
 
-fn main() {
-    let mut index = io::large_buffer();
-    let Input::Bytes(n) = input::read_file(b"index", &mut index) else {
-        os::fail(b"index");
-        return;
+fn main(rt: HostRuntime) -> io::Result<()> {
+    let mut index = [0u8; 65536];
+    let n = match input::read_file(&rt, b"index", &mut index) {
+        Input::Bytes(n) => n,
+        Input::Failed(error) => {
+            input::fail(&rt, b"index", error);
+            return Ok(());
+        }
     };
-    replay_files(printing::front(&index, n));
+    replay_files(&rt, printing::front(&index, n))
 }

@@ -4,6 +4,8 @@
 #![tactic(auto)]
 
 use framed::{RunAnswer, WriteAnswer};
+use std::io;
+use std::time::{CpuClock, Duration};
 
 // The words of expression x, or of instruction i, from a place on: kind, first and second number.
 fn set_entry(p: &mut [u32], place: usize, kind: u32, a: u32, b: u32) {
@@ -67,65 +69,75 @@ fn nest_all(p: &mut [u32; 16384]) {
 }
 
 // A text as it is, or the first and the last bytes of a long one.
-fn put_text(text: &[u8]) {
+fn put_text(rt: &impl Print, text: &[u8]) -> io::Result<()> {
     let n = text.len();
-    print_output::put_size(n);
-    print_output::put(b" bytes: ");
+    print_output::put_size(rt, n)?;
+    print_output::put(rt, b" bytes: ")?;
     if n <= 400 {
-        print_output::put(text);
-        print_output::put(b"\n");
-        return;
+        print_output::put(rt, text)?;
+        return print_output::put(rt, b"\n");
     }
-    print_output::put(printing::front(text, 100));
-    print_output::put(b" .. ");
-    print_output::put(&text[n - 100..]);
-    print_output::put(b"\n");
+    print_output::put(rt, printing::front(text, 100))?;
+    print_output::put(rt, b" .. ")?;
+    print_output::put(rt, &text[n - 100..])?;
+    print_output::put(rt, b"\n")
 }
 
-fn put_written(p: &[u32; 16384], h: &[u32; 16384], l: &[u8; 8192], t: &[u8; 16384]) {
+fn put_written(
+    rt: &impl Print,
+    p: &[u32; 16384],
+    h: &[u32; 16384],
+    l: &[u8; 8192],
+    t: &[u8; 16384],
+) -> io::Result<()> {
     let mut out = [0u8; 32768];
     let answer = write::write(p, h, l, t, &mut out);
     match answer {
-        WriteAnswer::Written(n) => put_text(printing::front(&out, n)),
+        WriteAnswer::Written(n) => put_text(rt, printing::front(&out, n)),
         _ => {
-            print_output::put(b"refused ");
-            print_output::put_number(answers::write_number(answer));
-            print_output::put(b"\n");
+            print_output::put(rt, b"refused ")?;
+            print_output::put_number(rt, answers::write_number(answer))?;
+            print_output::put(rt, b"\n")
         }
     }
 }
 
 // The program of a source, made deeper: by so many doubled levels, or by frames.
-fn write_deep(source: &[u8], levels: u32) {
+fn write_deep(rt: &impl Print, source: &[u8], levels: u32) -> io::Result<()> {
     let mut p = [0u32; 16384];
     let mut h = [0u32; 16384];
     let mut l = [0u8; 8192];
     let mut t = [0u8; 16384];
     let answer = load::load(source, 8, 8, &mut p, &mut h, &mut l, &mut t);
     if answers::load_number(answer) != 0 {
-        print_output::put(b"not loaded\n");
-        return;
+        return print_output::put(rt, b"not loaded\n");
     }
     if levels == 0 {
         nest_all(&mut p);
     } else {
         grow_all(&mut p, 3, 1, levels);
     }
-    put_written(&p, &h, &l, &t);
+    put_written(rt, &p, &h, &l, &t)
 }
 
 // What a run shows, or how it was answered.
-fn put_run(p: &[u32; 16384], h: &mut [u32; 16384], l: &[u8; 8192], t: &mut [u8; 16384]) {
+fn put_run(
+    rt: &impl Print,
+    p: &[u32; 16384],
+    h: &mut [u32; 16384],
+    l: &[u8; 8192],
+    t: &mut [u8; 16384],
+) -> io::Result<()> {
     let mut out = [0u8; 64];
     let answer = run::run(p, h, l, t, 10, &mut out);
     match answer {
-        RunAnswer::Stopped(r) => print_output::put(printing::front(&out, r.bytes)),
-        _ => print_output::put(b"not well-formed\n"),
+        RunAnswer::Stopped(r) => print_output::put(rt, printing::front(&out, r.bytes)),
+        _ => print_output::put(rt, b"not well-formed\n"),
     }
 }
 
 // The codes of Main.a and Main.b, each made deeper by so many levels of a kind, and compared.
-fn compare_deep(kind: u32, a: u32, b: u32) {
+fn compare_deep(rt: &impl Print, kind: u32, a: u32, b: u32) -> io::Result<()> {
     let mut p = [0u32; 16384];
     let mut h = [0u32; 16384];
     let mut l = [0u8; 8192];
@@ -134,38 +146,37 @@ fn compare_deep(kind: u32, a: u32, b: u32) {
         b"frame: [ Main := frame: [ start := code { self.r := ^.a == ^.b; show self.r; }, a := code {}, b := code {} ] ]";
     let answer = load::load(source, 8, 8, &mut p, &mut h, &mut l, &mut t);
     if answers::load_number(answer) != 0 {
-        print_output::put(b"not loaded\n");
-        return;
+        return print_output::put(rt, b"not loaded\n");
     }
     grow_all(&mut p, kind, 1, a);
     grow_all(&mut p, kind, 2, b);
-    put_run(&p, &mut h, &l, &mut t);
+    put_run(rt, &p, &mut h, &l, &mut t)
 }
 
-// This program has had less than two seconds of the processor's time, which `clock` counts in millionths.
-fn soon() -> bool {
-    libc::clock() < 2000000
+// This program has had less than two seconds of the processor's time.
+fn soon(rt: &impl CpuClock) -> io::Result<bool> {
+    Ok(rt.process_cpu_time()? < Duration::from_secs(2))
 }
 
-fn main() {
+fn main(rt: HostRuntime) -> io::Result<()> {
     let jumps = b"frame: [ Main := frame: [ start := code { jump code {} 1; } ] ]";
-    write_deep(jumps, 1);
-    write_deep(jumps, 3);
-    write_deep(jumps, 60);
-    write_deep(jumps, 100);
+    write_deep(&rt, jumps, 1)?;
+    write_deep(&rt, jumps, 3)?;
+    write_deep(&rt, jumps, 60)?;
+    write_deep(&rt, jumps, 100)?;
     write_deep(
+        &rt,
         b"frame: [ Main := frame: [ start := code { show code { show ^.^; }; } ], d := 1 ]",
         0,
-    );
+    )?;
     // compared again and again, these would take many seconds, and what follows would never end
-    compare_deep(3, 31, 31);
-    compare_deep(4, 20, 20);
-    if !soon() {
-        print_output::put(b"too slow\n");
-        return;
+    compare_deep(&rt, 3, 31, 31)?;
+    compare_deep(&rt, 4, 20, 20)?;
+    if !soon(&rt)? {
+        return print_output::put(&rt, b"too slow\n");
     }
-    compare_deep(3, 60, 60);
-    compare_deep(3, 60, 59);
-    compare_deep(4, 60, 60);
-    compare_deep(4, 62, 62);
+    compare_deep(&rt, 3, 60, 60)?;
+    compare_deep(&rt, 3, 60, 59)?;
+    compare_deep(&rt, 4, 60, 60)?;
+    compare_deep(&rt, 4, 62, 62)
 }

@@ -2,26 +2,36 @@
 // that refuses the source as tokens, or 0.
 #![tactic(auto)]
 
+use std::env::FillError;
+use std::io;
+use std::rt::{Env, Files};
 use token::TokenRead;
 
-fn write_token(s: &[u8], kind: u32, begin: usize, end: usize, word: u32) {
-    print_output::put_number(kind);
-    print_output::put(b" ");
-    print_output::put_size(begin);
-    print_output::put(b" ");
-    print_output::put_size(end);
-    print_output::put(b" ");
+fn write_token(
+    rt: &impl Print,
+    s: &[u8],
+    kind: u32,
+    begin: usize,
+    end: usize,
+    word: u32,
+) -> io::Result<()> {
+    print_output::put_number(rt, kind)?;
+    print_output::put(rt, b" ")?;
+    print_output::put_size(rt, begin)?;
+    print_output::put(rt, b" ")?;
+    print_output::put_size(rt, end)?;
+    print_output::put(rt, b" ")?;
     let bytes = token::token_bytes(s, begin, end);
-    print_output::put(bytes);
+    print_output::put(rt, bytes)?;
     if kind == 26 {
-        print_output::put(b" ");
-        print_output::put_integer(ints::int_of(word));
+        print_output::put(rt, b" ")?;
+        print_output::put_integer(rt, ints::int_of(word))?;
     }
-    print_output::put(b"\n");
+    print_output::put(rt, b"\n")
 }
 
 // The tokens of a source, up to its end or to bytes that form none.
-fn write_tokens(s: &[u8]) {
+fn write_tokens(rt: &impl Print, s: &[u8]) -> io::Result<()> {
     let t = source::classes();
     let mut at = 0;
     while at < s.len() {
@@ -29,18 +39,18 @@ fn write_tokens(s: &[u8]) {
         let token = next.token;
         match token {
             TokenRead::End => {
-                return;
+                return Ok(());
             }
             TokenRead::NoToken => {
-                print_output::put(b"no token\n");
-                return;
+                return print_output::put(rt, b"no token\n");
             }
             TokenRead::Token(kind, begin, end, word) => {
-                write_token(s, kind, begin, end, word);
+                write_token(rt, s, kind, begin, end, word)?;
                 at = next.at;
             }
         }
     }
+    Ok(())
 }
 
 // The number that refuses a source as tokens, or 0.
@@ -57,32 +67,40 @@ fn refused(s: &[u8]) -> u32 {
     found.refusal
 }
 
-fn dump(path: &[u8]) {
-    let fd = os::open_read(path);
-    if fd < 0 {
-        os::fail(path);
-        return;
-    }
-    let mut buf = io::large_buffer();
-    let n = io::read_full(fd, &mut buf);
-    libc::close(fd);
-    print_output::put(path);
-    print_output::put(b"\n");
-    write_tokens(&buf[..n]);
-    print_output::put(b"refused ");
-    print_output::put_number(refused(&buf[..n]));
-    print_output::put(b"\n");
+fn dump_source(rt: &impl Print, path: &[u8], s: &[u8]) -> io::Result<()> {
+    print_output::put(rt, path)?;
+    print_output::put(rt, b"\n")?;
+    write_tokens(rt, s)?;
+    print_output::put(rt, b"refused ")?;
+    print_output::put_number(rt, refused(s))?;
+    print_output::put(rt, b"\n")
 }
 
-fn dump_argument(i: usize) {
-    let mut path = io::buffer();
-    let n = os::arg(i, &mut path);
-    dump(&path[..n]);
+fn dump<R: Files + Print + Eprint>(rt: &R, path: &[u8]) -> io::Result<()> {
+    let mut buf = [0u8; 65536];
+    let Some(n) = input::read_opened(rt, path, &mut buf) else {
+        return Ok(());
+    };
+    dump_source(rt, path, &buf[..n])
 }
 
-fn main() {
-    let n = os::arg_count();
-    for i in 1..n {
-        dump_argument(i);
+// Whether there is such an argument. One that is too long for a path counts as empty.
+fn dump_argument<R: Env + Files + Print + Eprint>(rt: &R, i: usize) -> io::Result<bool> {
+    let mut path = [0u8; 4096];
+    let n = match rt.arg(i, &mut path) {
+        Ok(n) => n,
+        Err(FillError::TooLong) => 0,
+        Err(FillError::NotPresent) => return Ok(false),
+    };
+    dump(rt, &path[..n])?;
+    Ok(true)
+}
+
+fn main(rt: HostRuntime) -> io::Result<()> {
+    for i in 1..usize::MAX {
+        if !dump_argument(&rt, i)? {
+            break;
+        }
     }
+    Ok(())
 }
