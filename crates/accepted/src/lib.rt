@@ -1,3 +1,2 @@
 // What a source that load accepts has: statements in specs/, proofs in proofs/.
 #![tactic(auto)]
-

@@ -1,3 +1,2 @@
 // The three demands, proved of the machine: definitions and proofs only.
 #![tactic(auto)]
-

@@ -1,3 +1,2 @@
 // What was emitted is well-formed: statement in specs/, proofs in proofs/.
 #![tactic(auto)]
-

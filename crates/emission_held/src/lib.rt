@@ -1,3 +1,2 @@
 // What was emitted is read back as the same program: statements in specs/, proofs in proofs/.
 #![tactic(auto)]
-

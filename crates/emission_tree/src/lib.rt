@@ -1,3 +1,2 @@
 // What emitted program words hold, entry by entry: definitions in specs/, proofs in proofs/.
 #![tactic(auto)]
-

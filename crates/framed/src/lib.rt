@@ -1,7 +1,6 @@
 // The public types of the frame machine. The definitions in specs/ speak of these; specs/Answers.antt gives each case of an answer document 01's number or word.
 #![tactic(auto)]
 
-
 // A text: a string literal of the program or a made text, each by its number.
 #[derive(Clone, Copy)]
 pub enum Text {

@@ -1,3 +1,2 @@
 // What the words after one step hold, from the definitions alone: laws only.
 #![tactic(auto)]
-

@@ -1,3 +1,2 @@
 // What program words hold as trees: definitions and laws only.
 #![tactic(auto)]
-

@@ -7,7 +7,8 @@ use Rattle.decimal.proofs.decimal.Goals as goal
 
 pub returns-then-w-lt2147483648 : goal.returns-then-w-lt2147483648
 returns-then-w-lt2147483648 c =
-        decimal_up _ c.ranges.n _ (c.word_of-w.ensures ∙ ap word_of (search rules)) (omega arith) _ _ c.digits.ensures
+    decimal_up _ c.ranges.n _ (c.word_of-w.ensures ∙ ap word_of (search rules)) (omega arith) _ _ c.digits.ensures
+
 pub returns : goal.returns
 returns c =
-        decimal_down _ c.ranges.n _ (c.word_of-w.ensures ∙ ap word_of (search rules)) (omega arith) _ _ c.digits-at.ensures
+    decimal_down _ c.ranges.n _ (c.word_of-w.ensures ∙ ap word_of (search rules)) (omega arith) _ _ c.digits-at.ensures

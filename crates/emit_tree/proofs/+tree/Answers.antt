@@ -88,8 +88,8 @@ expression-base-requires t c = (omega arith, search rules)
 pub expression-returns : goal.expression-returns
 expression-returns t c =
     elim c.if-place.branch [
-      expression-then-place w ↦ search (expression_base, c.requires.1.1)
-    | expression-else-place w ↦ search (expression_outside, c.requires.1.1)
+      | expression-then-place w ↦ search (expression_base, c.requires.1.1)
+      | expression-else-place w ↦ search (expression_outside, c.requires.1.1)
     ]
 
 pub frame-returns-then-m-n : goal.frame-returns-then-m-n

@@ -4,7 +4,7 @@ use Rattle.heap.proofs.take_frame.Goals as goal
 pub returns : goal.returns
 unfolding take_frame
 returns c =
-        rw (
+    rw (
       c.set_word-3.ensures,
       c.wide-3.ensures,
       c.set_word-2.ensures,

@@ -7,6 +7,7 @@ emit-requires c = record { cached = search rules; kept = search rules; led = sea
 
 pub start-requires : goal.start-requires
 start-requires c =
-                    install_can_start _ _ _ _ _ _ _ c.requires.can _ _ _ _ c.emit.ensures c.clear_words.ensures c.clear_bytes.ensures
+    install_can_start _ _ _ _ _ _ _ c.requires.can _ _ _ _ c.emit.ensures c.clear_words.ensures c.clear_bytes.ensures
+
 pub returns : goal.returns
 returns c = search (install_done, c.requires.can)

@@ -9,4 +9,4 @@ returns-in_default c = cc
 
 pub returns : goal.returns
 returns c =
-        packed_value _ _ c.known_told-1.given.0 _ c.in-Found.is _ _ c.number_of.ensures c.tag_of.ensures (search rules)
+    packed_value _ _ c.known_told-1.given.0 _ c.in-Found.is _ _ c.number_of.ensures c.tag_of.ensures (search rules)

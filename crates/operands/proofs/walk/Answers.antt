@@ -20,19 +20,22 @@ returns-then-h-a-ne1 c = search walked_free
 pub returns-then-c-gt16 : goal.returns-then-c-gt16
 unfolding word
 returns-then-c-gt16 c =
-            walked_many _ _ _ _ _ _ _ _ c.loop-i.invariant c.loop-i-test.true c.if-tag-lt4.false c.if-f-ge256.false _ c.wide.ensures
+    walked_many _ _ _ _ _ _ _ _ c.loop-i.invariant c.loop-i-test.true c.if-tag-lt4.false c.if-f-ge256.false _ c.wide.ensures
     c.if-h-a-ne1.false c.if-c-gt16.true
+
 pub returns-then-k-eq0 : goal.returns-then-k-eq0
 unfolding word
 returns-then-k-eq0 c =
-                walked_missing _ _ _ _ _ _ _ _ c.loop-i.invariant c.loop-i-test.true c.if-tag-lt4.false c.if-f-ge256.false _ c.wide.ensures
+    walked_missing _ _ _ _ _ _ _ _ c.loop-i.invariant c.loop-i-test.true c.if-tag-lt4.false c.if-f-ge256.false _ c.wide.ensures
     c.if-h-a-ne1.false c.if-c-gt16.false c.requires.names_start _ _ c.wide-in-loop-i.ensures c.slot_place-k.ensures c.if-k-eq0.true
+
 pub loop-i-preserved : goal.loop-i-preserved
 unfolding word
 loop-i-preserved c =
-                    along_again _ _ _ _ _ _ _ _ c.loop-i.invariant c.loop-i-test.true c.if-tag-lt4.false c.if-f-ge256.false _ c.wide.ensures
+    along_again _ _ _ _ _ _ _ _ c.loop-i.invariant c.loop-i-test.true c.if-tag-lt4.false c.if-f-ge256.false _ c.wide.ensures
     c.if-h-a-ne1.false c.if-c-gt16.false c.requires.names_start _ _ c.wide-in-loop-i.ensures c.slot_place-k.ensures c.if-k-eq0.false
     (c.shared_slice_known-in-loop-i-5-1.given (c.slot_place-k.result + 2))
+
 pub returns-then-tag-gt4 : goal.returns-then-tag-gt4
 returns-then-tag-gt4 c = search walked_high
 

@@ -4,7 +4,7 @@ use Rattle.program_entries.proofs.slot_ok.Goals as goal
 pub returns : goal.returns
 unfolding slot_ok
 returns c =
-                rw (
+    rw (
       c.other_names.ensures,
       c.follow_slot.ensures,
       c.slot_name-2.ensures,

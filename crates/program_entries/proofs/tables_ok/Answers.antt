@@ -4,7 +4,7 @@ use Rattle.program_entries.proofs.tables_ok.Goals as goal
 pub returns : goal.returns
 unfolding tables_ok
 returns c =
-        rw (
+    rw (
       c.slots_ok.ensures,
       c.program_slots.ensures,
       c.codes_ok.ensures,

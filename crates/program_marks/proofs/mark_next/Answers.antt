@@ -4,7 +4,7 @@ use Rattle.program_marks.proofs.mark_next.Goals as goal
 pub returns : goal.returns
 unfolding mark_next
 returns c =
-        rw (
+    rw (
       c.set_word.ensures,
       c.wide-2.ensures,
       c.instruction_after.ensures,

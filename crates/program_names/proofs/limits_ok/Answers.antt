@@ -4,7 +4,7 @@ use Rattle.program_names.proofs.limits_ok.Goals as goal
 pub returns : goal.returns
 unfolding limits_ok
 returns c =
-            rw (
+    rw (
       c.codes-2.ensures,
       c.start.ensures,
       c.path_names.ensures,

@@ -4,7 +4,7 @@ use Rattle.program_tests.proofs.code_marked.Goals as goal
 pub returns : goal.returns
 unfolding code_marked_as
 returns c =
-        rw (
+    rw (
       c.word-2.ensures,
       c.wide-2.ensures,
       c.word.ensures,

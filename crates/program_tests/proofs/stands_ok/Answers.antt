@@ -4,7 +4,7 @@ use Rattle.program_tests.proofs.stands_ok.Goals as goal
 pub returns : goal.returns
 unfolding stands_ok
 returns c =
-        rw (
+    rw (
       c.word-3.ensures,
       c.wide-3.ensures,
       c.word-2.ensures,

@@ -34,7 +34,8 @@ returns-then-n-gt16 c = let m : 16 < c.add_slot-n.result = omega arith in search
 
 pub depth_after-depth-requires : goal.depth_after-depth-requires
 depth_after-depth-requires c =
-        search (collect_shallow, rules, c.loop-at-test.true, c.loop-at.invariant.0, c.shared_slice_known-1.given)
+    search (collect_shallow, rules, c.loop-at-test.true, c.loop-at.invariant.0, c.shared_slice_known-1.given)
+
 pub loop-at-smaller : goal.loop-at-smaller
 loop-at-smaller c = search token_less
 

@@ -4,7 +4,7 @@ use Rattle.table_updates.proofs.set_expression.Goals as goal
 pub returns : goal.returns
 unfolding set_expression
 returns c =
-                rw (
+    rw (
       c.set_word-3.ensures,
       c.expression_b_of.ensures,
       c.wide-3.ensures,

@@ -4,7 +4,7 @@ use Rattle.table_updates.proofs.set_instruction.Goals as goal
 pub returns : goal.returns
 unfolding set_instruction
 returns c =
-                    rw (
+    rw (
       c.set_word-4.ensures,
       c.instruction_c_of.ensures,
       c.wide-4.ensures,

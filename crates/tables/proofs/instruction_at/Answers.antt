@@ -8,7 +8,7 @@ returns-then-k-p c = search instruction_read
 pub returns : goal.returns
 unfolding instruction_at
 returns c =
-        rw (
+    rw (
       c.instruction_of-2.ensures,
       c.instruction_c.ensures,
       c.instruction_b.ensures,

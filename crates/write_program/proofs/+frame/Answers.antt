@@ -54,7 +54,8 @@ outside_text-bounds-g-depth t c = search outside_inside
 
 pub outside_text-frame_text-b-requires : goal.outside_text-frame_text-b-requires
 outside_text-frame_text-b-requires t c =
-                    (search frame_falls, (write_next c.requires.outside_slot.0 c.append-a.ensures, outside_inner c.requires.outside_slot.0 c.requires.outside_slot.1 _ c.expression_at.ensures _ _ c.in-Frame.is c.link.ensures _ _ (omega arith)))
+    (search frame_falls, (write_next c.requires.outside_slot.0 c.append-a.ensures, outside_inner c.requires.outside_slot.0 c.requires.outside_slot.1 _ c.expression_at.ensures _ _ c.in-Frame.is c.link.ensures _ _ (omega arith)))
+
 pub outside_text-append-requires : goal.outside_text-append-requires
 outside_text-append-requires t c = search (can_second, c.append-a.ensures, c.frame_text-b.ensures.appended)
 
@@ -63,4 +64,4 @@ outside_text-shape_of-g t c = c.frame_text-b.auto.1.1.0 ∙ simp length-set
 
 pub outside_text-returns : goal.outside_text-returns
 outside_text-returns t c =
-                                    outside_frame c.requires.outside_slot.0 c.requires.outside_slot.1 _ c.expression_at.ensures _ _ c.in-Frame.is c.link.ensures _ c.slot_name.ensures c.append-a.ensures c.frame_text-b.ensures c.append.ensures
+    outside_frame c.requires.outside_slot.0 c.requires.outside_slot.1 _ c.expression_at.ensures _ _ c.in-Frame.is c.link.ensures _ c.slot_name.ensures c.append-a.ensures c.frame_text-b.ensures c.append.ensures

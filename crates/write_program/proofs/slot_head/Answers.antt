@@ -7,6 +7,7 @@ append_name-b-requires c = (search head_name, search can_append)
 
 pub append-requires : goal.append-requires
 append-requires c =
-                search (can_append, c.append_name-b.ensures, can_append c.requires.can_append c.slot_lead-a.ensures)
+    search (can_append, c.append_name-b.ensures, can_append c.requires.can_append c.slot_lead-a.ensures)
+
 pub returns : goal.returns
 returns c = search head_appended

@@ -12,7 +12,8 @@ overflow_add-j c = search (path_fits, rules)
 
 pub append_name-b-requires : goal.append_name-b-requires
 append_name-b-requires c =
-        (search path_at_name, can_append c.loop-i.invariant.grown.can c.append-a.ensures)
+    (search path_at_name, can_append c.loop-i.invariant.grown.can c.append-a.ensures)
+
 pub loop-i-preserved : goal.loop-i-preserved
 loop-i-preserved c = search naming_again
 

@@ -17,7 +17,8 @@ append_climbs-b-requires c = search can_append
 
 pub append_names-requires : goal.append_names-requires
 append_names-requires c =
-                let within = shared_within _ _ _ _ _ c.common_prefix-c.ensures in
+    let within = shared_within _ _ _ _ _ c.common_prefix-c.ensures in
     (path_part c.requires.0 (omega (arith, within)), can_append (can_append c.requires.1 c.append-a.ensures) c.append_climbs-b.ensures)
+
 pub returns : goal.returns
 returns c = search program_appended

@@ -14,9 +14,11 @@ overflow_add-j c = search (path_fits, rules)
 
 pub returns-then-holding-k-2 : goal.returns-then-holding-k-2
 returns-then-holding-k-2 c =
-            search (comparing_apart, c.loop-i.invariant, c.loop-i-test.true, c.wide-k.ensures, c.if-holding-k.false, c.path_name.ensures, c.if-holding-k-2.true)
+    search (comparing_apart, c.loop-i.invariant, c.loop-i-test.true, c.wide-k.ensures, c.if-holding-k.false, c.path_name.ensures, c.if-holding-k-2.true)
+
 pub loop-i-preserved : goal.loop-i-preserved
 loop-i-preserved c =
-            search (comparing_again, c.loop-i.invariant, c.loop-i-test.true, c.wide-k.ensures, c.if-holding-k.false, c.path_name.ensures, c.if-holding-k-2.false)
+    search (comparing_again, c.loop-i.invariant, c.loop-i-test.true, c.wide-k.ensures, c.if-holding-k.false, c.path_name.ensures, c.if-holding-k-2.false)
+
 pub returns : goal.returns
 returns c = search comparing_done
