@@ -11,7 +11,7 @@ EXAMPLES := target/embed target/many target/tidy
 CARGO := --release --offline --manifest-path bindings/rust/Cargo.toml
 VERSION := $(shell sed -n 's/^\#define FRAMED_VERSION "\(.*\)"$$/\1/p' include/framed.h)
 
-# one after the other: each rule that proves uses every core, and all write to target/
+# one after the other: each rule that proves uses more than one core, and all write to target/
 .NOTPARALLEL:
 .DELETE_ON_ERROR:
 .PHONY: help prove check library programs command examples test install install-library install-programs uninstall
@@ -20,9 +20,9 @@ help:
 	@echo 'Fulgwezen $(VERSION). What to make:'
 	@echo
 	@echo '  prove      everything from nothing, each wrong version refused, each program run (rt ci): the gate'
-	@echo '  check      what changed since it was last proved, and what stands on it (rt check)'
-	@echo '  library    $(LIBRARY), for C and Rust (rt check framed_c, rt staticlib framed_c)'
-	@echo '  programs   target/bin/framerun and target/bin/replay (rt check framerun replay)'
+	@echo '  check      what changed since it was last proved, and what stands on it (rt all check)'
+	@echo '  library    $(LIBRARY), for C and Rust (rt lib in crates/framed_c)'
+	@echo '  programs   target/bin/framerun and target/bin/replay (rt run in their folders)'
 	@echo '  command    the Rust command framed, in bindings/rust/target/release'
 	@echo '  examples   the C examples target/embed, target/many and target/tidy'
 	@echo '  test       the Rust tests, and through them the C examples'
@@ -39,15 +39,15 @@ prove:
 	rt ci
 
 check:
-	rt check
+	rt all check
 
-# rt staticlib alone proves one crate at a time, rt check one on each core
 library:
-	rt check framed_c
-	rt staticlib framed_c
+	cd crates/framed_c && rt lib
+	install -D -m 644 crates/framed_c/out/libframed_c.a $(LIBRARY)
 
+# rt run proves, builds and runs a program, here on nothing
 programs:
-	rt check framerun replay
+	for it in framerun replay; do (cd crates/$$it && rt run < /dev/null > /dev/null) && install -D -m 755 crates/$$it/out/$$it target/bin/$$it || exit 1; done
 
 command: | $(LIBRARY)
 	cargo build $(CARGO) --bin framed
@@ -62,7 +62,7 @@ $(LIBRARY):
 	$(MAKE) library
 
 $(PROGRAMS):
-	rt check $(@F)
+	$(MAKE) programs
 
 $(COMMAND): | $(LIBRARY)
 	cargo build $(CARGO) --bin framed

@@ -13,7 +13,7 @@ fn main() {
     println!("cargo:rerun-if-changed={}", archive.display());
     if !archive.exists() {
         panic!(
-            "{} is not there: run `rt staticlib framed_c` at the top of the repository, or build with \
+            "{} is not there: run `make library` at the top of the repository, or build with \
              --no-default-features for the plain implementation alone",
             archive.display()
         );

@@ -1,6 +1,6 @@
 //! The frame machine from Rust.
 //!
-//! `machine` calls the proved static library (`rt staticlib framed_c`). `plain` is a second implementation of the same
+//! `machine` calls the proved static library (`make library`). `plain` is a second implementation of the same
 //! specification over the same four memories, with no code in common: the yardstick of the tests and of the bench. Both
 //! have the same functions but for `look_text`, which gives a part of a memory in `plain` and a copy in `machine`.
 //!
