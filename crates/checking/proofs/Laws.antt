@@ -1,14 +1,12 @@
 -- One law for each way through the functions of this crate, for what each call asks and for each fall of the measure. Assumes nothing.
 use Prim.Native.Nat.{ℕ, zero, suc, ◌+◌, ◌-◌, ◌≤◌, ◌<◌}
 use mathlib.Core.Path.{◌≡◌, refl, ◌∙◌, sym}
-use mathlib.Core.List.{List, [], ◌∷◌}
+use mathlib.Core.List.{List, []}
 use mathlib.Core.Bool.{Bool, true, false}
 use native.Mathlib.Omega.{arith}
 use native.Mathlib.Decide.{dec_lt, ℕ_discrete}
 use lib.Dec.{ltb}
 use borrow.Author.Tests.{ne_eqb, le-ltb}
-use types.Run.{OneOf, miss}
-use denote.Enum.Declared.{tag_of}
 use Rattle.words.specs.Words.{pick}
 use Rattle.framed.specs.declared.Value.{Value}
 use Rattle.framed.specs.Tree.{Base, Expression}
@@ -20,7 +18,6 @@ use Rattle.tables.specs.declared.ExpressionEntry.{ExpressionEntry}
 use Rattle.tables.specs.declared.InstructionEntry.{InstructionEntry}
 use Rattle.tables.specs.Entries.{expression_of, expression_at, instruction_of, instruction_at}
 use Rattle.tables.specs.Fields.{link, expressions, instructions, instruction_kind, instruction_a, instruction_b, instruction_c, slot_after, expression_kind, expression_a, expression_b}
-use Rattle.tables.specs.contracts.ExpressionEntry.{the_type}
 use Rattle.program_entries.specs.Form as form
 use Rattle.heap.specs.Words.{self_held, program_held}
 use Rattle.heap.specs.Held.{heap_held, frames_held, texts_held}

@@ -6,10 +6,7 @@ use mathlib.Core.Bool.{Bool, true, false}
 use native.Mathlib.Omega.{arith}
 use lib.Dec.{eqb}
 use lib.ListN.{length}
-use types.Run.{OneOf, miss}
-use denote.Enum.Declared.{tag_of}
 use Rattle.framed.specs.declared.Value.{Value}
-use Rattle.framed.specs.contracts.Value.{the_type}
 use Rattle.framed.specs.Values.{truth}
 use Rattle.framed.specs.Tree.{Instruction, Code}
 use Rattle.framed.specs.Paths.{Path, from_self, from_program}

@@ -8,8 +8,6 @@ use native.Mathlib.Numerals.{add-one}
 use lib.IntN.{ℤ, pos, negsuc}
 use lib.Dec.{ltb}
 use lib.ListN.{length}
-use types.Run.{OneOf, miss}
-use denote.Enum.Declared.{tag_of}
 use borrow.Author.Tests.{eq-eqb, ne_eqb, ltb-true, ltb-false, le-leb, lt-leb}
 use mir.Syntax.{w32}
 use mir.Val.{of_z}
@@ -32,7 +30,6 @@ use Rattle.sweep.specs.Kinds.{kind_of, front_kind}
 use Rattle.grammar.specs.Runs.{KindAt, Sees, Meets, Outcome, Any}
 use Rattle.grammar.specs.declared.Found.{Found}
 use Rattle.grammar.specs.declared.Seen.{Seen}
-use Rattle.grammar.specs.contracts.Found as FoundType
 use Rattle.grammar.proofs.Combine.{by_this}
 use Rattle.names.specs.Kept.{table_of}
 use Rattle.emit_names.specs.Table.{NumberAt}

@@ -8,8 +8,6 @@ use native.Mathlib.Omega.{arith}
 use native.Mathlib.Nat.{min-le_right}
 use lib.ListN.{length, drop, get_or, drop_of_length-le, length-take, length-drop}
 use lib.Seq.{drop-cons}
-use types.Run.{OneOf, miss}
-use denote.Enum.Declared.{tag_of}
 use Rattle.framed.specs.Bytes.{class}
 use Rattle.framed.specs.Tokens.{Token, tokens}
 use Rattle.framed.specs.Symbols.{literals}
@@ -18,7 +16,6 @@ use Rattle.words.specs.Words.{word, set_word}
 use Rattle.words.proofs.Laws.{set_size}
 use Rattle.token.specs.Reading.{TokenAt}
 use Rattle.token.specs.declared.TokenRead.{TokenRead}
-use Rattle.token.specs.contracts.TokenRead.{the_type}
 use Rattle.sweep.specs.Decides.{Short}
 use Rattle.strings.specs.Places.{StringAt, Placed}
 use Rattle.strings.proofs.Laws.{ReadAgain, string_read}

@@ -5,8 +5,6 @@ use mathlib.Core.List.{List, [], ◌∷◌}
 use Prim.Native.Nat.{ℕ, ◌+◌, ◌<◌, ◌≤◌}
 use native.Mathlib.Omega.{arith}
 use lib.ListN.{length, set}
-use types.Run.{OneOf, miss}
-use denote.Enum.Declared.{tag_of}
 use borrow.Author.Tests.{lt-ltb, le-ltb}
 use Rattle.framed.specs.Bytes.{class}
 use Rattle.framed.specs.Tokens.{Token, Tokens⊢, end, token, next}
@@ -14,7 +12,6 @@ use Rattle.framed.proofs.TokensExact.{end≢token, no_token≢token, rest_inj}
 use Rattle.source.specs.Positions.{rest}
 use Rattle.token.specs.Reading.{token_of, token_kind, meant, TokenAt, Spot}
 use Rattle.token.specs.declared.TokenRead.{TokenRead}
-use Rattle.token.specs.contracts.TokenRead.{the_type}
 use Rattle.token.proofs.KindNumbers.{kind_is}
 use Rattle.token.proofs.Unique.{token_inj}
 use Rattle.token.proofs.Answers.{spot_of}

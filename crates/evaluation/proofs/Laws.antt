@@ -5,8 +5,7 @@ use mathlib.Core.List.{List, [], ◌∷◌}
 use native.Mathlib.Omega.{arith}
 use native.Mathlib.Decide.{dec_le, ℕ_discrete}
 use lib.ListN.{length}
-use types.Run.{OneOf, miss}
-use denote.Enum.Declared.{tag_of}
+use types.Run.{miss}
 use borrow.Author.Tests.{eq-eqb, ne_eqb, le-leb, lt-leb}
 use Rattle.framed.specs.declared.Value.{Value}
 use Rattle.framed.specs.Tree.{Expression, Slots}
@@ -14,7 +13,6 @@ use Rattle.framed.specs.Paths.{Path}
 use Rattle.framed.specs.Equality.{Constants}
 use Rattle.framed.specs.Machine.{frame_literals, frame_literals_in, join_signs, join_signs_in}
 use Rattle.tables.specs.declared.ExpressionEntry.{ExpressionEntry}
-use Rattle.tables.specs.contracts.ExpressionEntry.{the_type}
 use Rattle.tables.specs.Entries.{expression_of, expression_at}
 use Rattle.tables.specs.Fields.{expressions, expression_kind, expression_a, link, slot_name, slot_link, slot_after}
 use Rattle.program_form.specs.Sound.{SlotPlace, Sound}

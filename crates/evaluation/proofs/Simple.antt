@@ -1,14 +1,12 @@
 -- Expressions that are no frame literals: what the words hold of them, and each way through `flat`. Assumes nothing.
 use Prim.Native.Nat.{ℕ, zero, suc, ◌≤◌, ◌<◌}
 use mathlib.Core.Path.{◌≡◌, refl, ◌∙◌, ap, sym, subst}
-use mathlib.Core.List.{List, [], ◌∷◌}
+use mathlib.Core.List.{List, []}
 use mathlib.Core.Bool.{Bool, true, false, not}
 use native.Mathlib.Omega.{arith}
 use native.Mathlib.Decide.{dec_le, ℕ_discrete}
 use borrow.Author.Tests.{ne_eqb, le-ltb}
 use lib.Dec.{ltb}
-use types.Run.{OneOf, miss}
-use denote.Enum.Declared.{tag_of}
 use Rattle.words.specs.Words.{pick}
 use Rattle.framed.specs.declared.Value.{Value}
 use Rattle.framed.specs.Values.{truth, bit}
@@ -17,7 +15,6 @@ use Rattle.framed.specs.Paths.{Path}
 use Rattle.framed.specs.Machine as M
 use Rattle.framed.specs.Machine.{Result, gives, ends, is_join, frame_literals, join_signs}
 use Rattle.tables.specs.declared.ExpressionEntry.{ExpressionEntry}
-use Rattle.tables.specs.contracts.ExpressionEntry.{the_type}
 use Rattle.tables.specs.Entries.{expression_of, expression_at}
 use Rattle.tables.specs.Fields.{expressions, expression_kind, expression_a, expression_b}
 use Rattle.program_form.specs.WellFormed.{WellFormed}

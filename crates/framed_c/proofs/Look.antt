@@ -1,14 +1,11 @@
 -- Look and its companion for C. Assumes nothing.
 use mathlib.Core.Path.{◌≡◌, refl, ◌∙◌, sym}
 use mathlib.Core.Bool.{Bool, true, false, true≢false}
-use mathlib.Core.List.{List, [], ◌∷◌}
+use mathlib.Core.List.{List, []}
 use Prim.Native.Nat.{ℕ}
-use types.Run.{OneOf, miss}
-use denote.Enum.Declared.{tag_of}
 use lib.IntN.{ℤ}
 use lib.ListN.{length}
 use Rattle.framed.specs.declared.LookAnswer.{LookAnswer}
-use Rattle.framed.specs.contracts.LookAnswer.{the_type}
 use Rattle.splice.specs.Splice.{splice}
 use Rattle.wellformed.specs.WellFormed.{WellFormed, well_formed}
 use Rattle.wellformed.proofs.Decides.{well_formed_decides}

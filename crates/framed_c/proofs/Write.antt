@@ -1,11 +1,8 @@
 -- Write for C: one law for each answer. Assumes nothing.
 use mathlib.Core.Path.{◌≡◌, refl, ◌∙◌}
-use mathlib.Core.List.{List, [], ◌∷◌}
+use mathlib.Core.List.{List, []}
 use Prim.Native.Nat.{ℕ}
-use types.Run.{OneOf, miss}
-use denote.Enum.Declared.{tag_of}
 use Rattle.framed.specs.declared.WriteAnswer.{WriteAnswer}
-use Rattle.framed.specs.contracts.WriteAnswer.{the_type}
 use Rattle.answers.specs.Numbers.{write_number}
 use Rattle.write.specs.Write.{writing, write_call, WriteMeans}
 use Rattle.framed_c.specs.Write.{length_cell, WritesInC}

@@ -7,8 +7,6 @@ use native.Mathlib.Omega.{arith}
 use lib.IntN.{ℤ}
 use lib.ListN.{length}
 use borrow.Author.Tests.{eq-eqb, ne_eqb}
-use types.Run.{OneOf, miss}
-use denote.Enum.Declared.{tag_of}
 use Rattle.framed.specs.Bytes.{class}
 use Rattle.framed.specs.Tokens.{Token, Fixed, Operator, token, next, Tokens⊢}
 use Rattle.framed.specs.Symbols.{Symbol, numbered}
@@ -23,7 +21,6 @@ use Rattle.token.proofs.KindNumbers.{kind_is}
 use Rattle.token.proofs.Unique.{token_inj}
 use Rattle.token.proofs.Answers.{spot_of}
 use Rattle.token.specs.declared.TokenRead.{TokenRead}
-use Rattle.token.specs.contracts.TokenRead.{the_type}
 use Rattle.sweep.proofs.Numbered.{operator_range, fixed_below}
 use Rattle.sweep.specs.Kinds.{kind_of, front_kind}
 use Rattle.grammar.specs.Runs.{Outcome, Runs, Any, Moved, KindAt, Front, Expects, KindsOk, Sees}

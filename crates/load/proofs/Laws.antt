@@ -1,15 +1,12 @@
 -- What each way through load gives, exactly and in its meaning. Assumes nothing.
 use mathlib.Core.Path.{◌≡◌, refl, sym, ap, ◌∙◌, subst}
 use mathlib.Core.Logic.{◌≢◌}
-use mathlib.Core.List.{List, [], ◌∷◌}
+use mathlib.Core.List.{List, []}
 use mathlib.Core.Option.{some}
 use Prim.Native.Nat.{ℕ, zero, suc}
 use native.Mathlib.Omega.{arith}
 use lib.ListN.{length}
-use types.Run.{OneOf, miss}
-use denote.Enum.Declared.{tag_of}
 use Rattle.framed.specs.declared.LoadAnswer.{LoadAnswer}
-use Rattle.framed.specs.contracts.LoadAnswer.{the_type}
 use Rattle.framed.specs.Answers.{load_number}
 use Rattle.framed.specs.Meaning.{refusal}
 use Rattle.framed.specs.Program.{Program, program}

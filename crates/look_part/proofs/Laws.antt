@@ -1,19 +1,15 @@
 -- One law for each way through the functions of this crate. Assumes nothing.
 use mathlib.Core.Path.{◌≡◌, refl}
-use mathlib.Core.List.{List, [], ◌∷◌}
+use mathlib.Core.List.{List, []}
 use Prim.Native.Nat.{ℕ, ◌*◌, ◌≤◌, ◌<◌}
-use types.Run.{OneOf, miss}
-use denote.Enum.Declared.{tag_of}
 use denote.Ref.{Bor}
 use borrow.Author.Tests.{lt-ltb, le-ltb}
 use Rattle.framed.specs.declared.Text.{Text}
 use Rattle.framed.specs.declared.Value.{Value}
-use Rattle.framed.specs.contracts.Value as value
 use Rattle.tables.specs.Fields.{literals, literal_length}
 use Rattle.heap.specs.Words.{text_length}
 use Rattle.texts.specs.Texts.{Inside}
 use Rattle.look_path.specs.declared.Resolved.{Resolved}
-use Rattle.look_path.specs.contracts.Resolved as resolved
 use Rattle.look_part.specs.declared.Part.{Part}
 use Rattle.look_part.specs.Part.{no_part, literal_part, made_part, text_part, value_part, part_found, PartOf, PartIs, InMemory}
 

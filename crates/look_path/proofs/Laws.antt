@@ -5,8 +5,6 @@ use mathlib.Core.Option.{Option, none, some}
 use Prim.Native.Nat.{ℕ, ◌-◌, ◌≤◌, ◌<◌}
 use native.Mathlib.Omega.{arith}
 use lib.ListN.{length}
-use types.Run.{OneOf, miss}
-use denote.Enum.Declared.{tag_of}
 use Rattle.framed.specs.declared.Value.{Value}
 use Rattle.framed.specs.Bytes.{class}
 use Rattle.framed.specs.Tokens.{Token, Fixed, tokens, prepend, next, read, skip, end}
@@ -23,7 +21,6 @@ use Rattle.source.specs.Positions.{rest, part}
 use Rattle.source.proofs.Positions.{rest_end}
 use Rattle.token.specs.Reading.{fixed_list, fixed_of, token_kind, token_of, TokenAt, Spot}
 use Rattle.token.specs.declared.TokenRead.{TokenRead}
-use Rattle.token.specs.contracts.TokenRead.{the_type}
 use Rattle.token.proofs.KindNumbers.{kind_is}
 use Rattle.token.proofs.Answers.{tokens_at_end, tokens_at_none, tokens_at_token, spot_of}
 use Rattle.sweep.specs.Kinds.{kind_of}

@@ -1,13 +1,11 @@
 -- One law for each way through the functions that count, for what each call asks and for each fall of the measure. Assumes nothing.
 use Prim.Native.Nat.{ℕ, ◌+◌, ◌-◌, ◌*◌, ◌≤◌, ◌<◌}
 use mathlib.Core.Path.{◌≡◌, refl, ◌∙◌, ap, sym}
-use mathlib.Core.List.{List, [], ◌∷◌}
+use mathlib.Core.List.{List, []}
 use mathlib.Core.Bool.{Bool, true, false}
 use native.Mathlib.Omega.{arith}
 use lib.Dec.{eqb}
 use borrow.Author.Tests.{ne_eqb}
-use types.Run.{OneOf, miss}
-use denote.Enum.Declared.{tag_of}
 use Rattle.words.specs.Words.{pick}
 use Rattle.framed.specs.Tokens.{Operator}
 use Rattle.framed.specs.Tree.{Base, Expression, Slots}
@@ -17,7 +15,6 @@ use Rattle.tables.specs.declared.ExpressionEntry.{ExpressionEntry}
 use Rattle.tables.specs.declared.InstructionEntry.{InstructionEntry}
 use Rattle.tables.specs.Entries.{expression_at, instruction_at}
 use Rattle.tables.specs.Fields.{expressions, expression_kind, link, slot_after}
-use Rattle.tables.specs.contracts.ExpressionEntry.{the_type}
 use Rattle.program_entries.specs.Form as form
 use Rattle.trees.specs.Trees.{Readers, expression_tree, operator_of}
 use Rattle.trees.specs.Held.{base_held, expression_held, slots_held, instruction_held, held}

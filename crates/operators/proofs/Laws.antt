@@ -2,17 +2,13 @@
 use Prim.Native.Nat.{ℕ, zero, suc, ◌≤◌, ◌<◌}
 use mathlib.Core.Path.{◌≡◌, refl, ◌∙◌, sym}
 use mathlib.Core.Bool.{Bool, true, false, ◌&&◌, ◌||◌}
-use mathlib.Core.List.{List, [], ◌∷◌}
+use mathlib.Core.List.{List, []}
 use native.Mathlib.Omega.{arith}
 use lib.Dec.{eqb}
 use lib.IntN.{ℤ, pos, ◌+ℤ◌, ◌-ℤ◌, ◌*ℤ◌}
 use lib.Signed.{lt_z}
-use types.Run.{OneOf, miss}
-use denote.Enum.Declared.{tag_of}
 use borrow.Author.Tests.{eq-eqb, ne_eqb, lt-ltb, le-ltb}
 use Rattle.words.specs.Words.{pick}
-use Rattle.framed.specs.contracts.Value.{the_type}
-use Rattle.arith.specs.contracts.Arithmetic.{the_type as arithmetic-type}
 use Rattle.framed.specs.declared.Value.{Value}
 use Rattle.framed.specs.Tokens.{Operator}
 use Rattle.framed.specs.Machine.{◌>>=◌, gives, ends, integer_in}

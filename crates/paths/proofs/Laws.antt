@@ -1,7 +1,7 @@
 -- One law for each way through the functions of this crate. Assumes nothing.
 use Prim.Native.Nat.{ℕ, ◌+◌, ◌≤◌, ◌<◌}
 use mathlib.Core.Path.{◌≡◌, refl, ◌∙◌, sym}
-use mathlib.Core.List.{List, [], ◌∷◌}
+use mathlib.Core.List.{List, []}
 use mathlib.Core.Bool.{Bool, true, false, not}
 use mathlib.Core.Option.{none}
 use native.Mathlib.Omega.{arith}
@@ -9,11 +9,8 @@ use native.Mathlib.Numerals.{add-one}
 use lib.ListN.{length, get_or, drop, drop_of_length-le}
 use lib.Seq.{drop-cons}
 use lib.Dec.{eqb}
-use types.Run.{OneOf, miss}
-use denote.Enum.Declared.{tag_of}
 use borrow.Author.Tests.{eq-eqb, ne_eqb, not-true, not-false}
 use Rattle.words.specs.Words.{pick, word}
-use Rattle.framed.specs.contracts.Value.{the_type}
 use Rattle.framed.specs.declared.Value.{Value}
 use Rattle.framed.specs.Values.{Slot}
 use Rattle.framed.specs.Fetch.{◌>>=◌, in_slots, in_frame, frame_of, get, fetch}

@@ -6,8 +6,6 @@ use mathlib.Core.Option.{some}
 use native.Mathlib.Omega.{arith}
 use lib.ListN.{length, take, drop, replicate}
 use lib.Seq.{take-append_seam}
-use types.Run.{OneOf, miss}
-use denote.Enum.Declared.{tag_of}
 use Rattle.framed.specs.declared.LoadAnswer.{LoadAnswer}
 use Rattle.framed.specs.declared.RunAnswer.{RunAnswer}
 use Rattle.framed.specs.declared.RunReport.{RunReport}
@@ -17,8 +15,6 @@ use Rattle.framed.specs.Meaning.{Lengths, refusal}
 use Rattle.framed.specs.Program.{Program, program}
 use Rattle.framed.specs.Answers.{load_number, run_report, collect_report}
 use Rattle.framed.specs.Framerun.{right_memories, number, stop_bytes, last_line, printed, framerun}
-use Rattle.framed.specs.contracts.RunAnswer.{the_type as run-type}
-use Rattle.framed.specs.contracts.CollectAnswer.{the_type as collect-type}
 use Rattle.framed.specs.Common.{bytes}
 use Rattle.load.specs.Load.{memories, Loads, LoadMeans}
 use Rattle.run.specs.Run.{RunMeans}

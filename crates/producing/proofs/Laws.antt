@@ -2,12 +2,10 @@
 use Prim.Native.Nat.{ℕ, ◌+◌, ◌*◌, ◌≤◌}
 use mathlib.Core.Path.{◌≡◌, ◌∙◌, ap}
 use mathlib.Core.Bool.{Bool, true, false}
-use mathlib.Core.List.{List, [], ◌∷◌}
+use mathlib.Core.List.{List, []}
 use native.Mathlib.Omega.{arith}
 use lib.IntN.{ℤ, pos}
 use lib.ListN.{length, take}
-use types.Run.{OneOf, miss}
-use denote.Enum.Declared.{tag_of}
 use borrow.Author.Tests.{le-ltb}
 use Rattle.framed.specs.declared.Value.{Value}
 use Rattle.framed.specs.declared.Text.{Text}
@@ -15,7 +13,6 @@ use Rattle.framed.specs.Values.{join_bytes, truth, bit}
 use Rattle.framed.specs.Machine as M
 use Rattle.framed.specs.Machine.{Result, gives, defined, is_join}
 use Rattle.tables.specs.declared.ExpressionEntry.{ExpressionEntry}
-use Rattle.tables.specs.contracts.ExpressionEntry.{the_type}
 use Rattle.tables.specs.Entries.{expression_at}
 use Rattle.tables.specs.Fields.{literals}
 use Rattle.heap.specs.Words.{text_length, take_text}

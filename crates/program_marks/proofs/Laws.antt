@@ -1,15 +1,12 @@
 -- One law for each way through the functions that mark. Assumes nothing.
 use mathlib.Core.Path.{◌≡◌, refl, sym, ap, ◌∙◌}
-use mathlib.Core.List.{List, [], ◌∷◌}
+use mathlib.Core.List.{List, []}
 use Prim.Native.Nat.{ℕ, zero, suc, ◌+◌, ◌-◌, ◌≤◌, ◌<◌}
 use native.Mathlib.Omega.{arith}
 use native.Mathlib.Numerals.{add-one}
 use lib.ListN.{length}
 use lib.Seq.{set-set}
 use borrow.Author.Tests.{eq-eqb, ne_eqb}
-use types.Run.{OneOf, miss}
-use denote.Enum.Declared.{tag_of}
-use Rattle.tables.specs.contracts.ExpressionEntry.{the_type}
 use Rattle.words.specs.Words.{word, set_word}
 use Rattle.tables.proofs.Walks.{walk_next, walk_past}
 use Rattle.words.proofs.Laws.{set_size}

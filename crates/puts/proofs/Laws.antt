@@ -7,11 +7,8 @@ use mathlib.Core.Option.{Option, none, some}
 use native.Mathlib.Omega.{arith}
 use lib.ListN.{length, get_elem?}
 use lib.Dec.{ltb}
-use types.Run.{OneOf, miss}
-use denote.Enum.Declared.{tag_of}
 use borrow.Author.Tests.{lt-ltb, le-ltb, not-true, not-false}
 use Rattle.words.specs.Words.{pick}
-use Rattle.framed.specs.contracts.Value.{the_type}
 use Rattle.framed.specs.Common.{if◌then◌else◌}
 use Rattle.framed.specs.declared.Value.{Value}
 use Rattle.framed.specs.Values.{Slot, Frame, new_frame}
@@ -28,7 +25,6 @@ use Rattle.heap.proofs.Held.{frames_length, frame_found, frame_of_used, frame_of
 use Rattle.paths.specs.declared.SlotFound.{SlotFound}
 use Rattle.paths.specs.declared.Fetched.{Fetched}
 use Rattle.paths.specs.Paths.{slot_from, fetched, path_held}
-use Rattle.paths.specs.contracts.SlotFound.{the_type as slot-type}
 use Rattle.paths.proofs.Slots.{slot_hit, slot_miss}
 use Rattle.paths.proofs.Laws.{slots_length}
 use Rattle.puts.specs.declared.PutTarget.{PutTarget}

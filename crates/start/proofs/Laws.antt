@@ -8,15 +8,12 @@ use native.Mathlib.Omega.{arith}
 use lib.Dec.{eqb}
 use lib.ListN.{length}
 use borrow.Author.Tests.{eq-eqb, ne_eqb}
-use types.Run.{OneOf, miss}
-use denote.Enum.Declared.{tag_of}
 use Rattle.framed.specs.Common.{if◌then◌else◌, bytes, same}
 use Rattle.framed.specs.Bytes.{class}
 use Rattle.framed.specs.Tokens.{Token}
 use Rattle.source.specs.Positions.{part}
 use Rattle.token.specs.Reading.{token_of, TokenAt, Spot}
 use Rattle.token.specs.declared.TokenRead.{TokenRead}
-use Rattle.token.specs.contracts.TokenRead.{the_type}
 use Rattle.token.proofs.KindNumbers.{kind_is}
 use Rattle.token.proofs.Answers.{spot_of}
 use Rattle.scan.specs.Scan.{depth_after, NotHuge}

@@ -1,15 +1,12 @@
 -- What each way through the functions gives. Assumes nothing.
 use mathlib.Core.Path.{◌≡◌, refl, sym, ap, ◌∙◌}
-use mathlib.Core.List.{List, [], ◌∷◌}
+use mathlib.Core.List.{List, []}
 use Prim.Native.Nat.{ℕ, zero, suc, ◌+◌, ◌-◌, ◌≤◌, ◌<◌}
 use native.Mathlib.Omega.{arith}
 use lib.Dec.{eqb}
-use types.Run.{OneOf, miss}
-use denote.Enum.Declared.{tag_of}
 use borrow.Author.Tests.{eq-eqb, ne_eqb}
 use Rattle.words.specs.Words.{pick}
 use Rattle.tables.specs.declared.ExpressionEntry.{ExpressionEntry}
-use Rattle.tables.specs.contracts.ExpressionEntry.{the_type}
 use Rattle.tables.specs.Entries.{expression_at}
 use Rattle.tables.specs.Fields.{program_slots, slot_name, slot_after, link}
 use Rattle.start_code.specs.StartCode.{find_slot, entry_slots, frame_slots, entry_code, code_number, start_code}

@@ -6,7 +6,6 @@ use Rattle.heap.specs.Words.{set_end_mark}
 use Rattle.allocation.specs.declared.Known.{Known}
 use Rattle.allocation.specs.Known.{Knows}
 use Rattle.wellformed.specs.WellFormed.{Formed}
-use Rattle.commit.specs.Direct as direct
 use Rattle.commit.specs.Direct.{CanDo, MakesNothing, MakesOrShows, IsMade, IsEnded, Does}
 use Rattle.commit.specs.Words.{WordsFit}
 use Rattle.step_parts.specs.declared.Outcome.{Outcome}

@@ -7,8 +7,7 @@ use lib.IntN.{ℤ, pos}
 use lib.ListN.{get_elem?}
 use mir.Syntax.{w32}
 use mir.Val.{to_z, of_z}
-use types.Run.{OneOf, hit}
-use denote.Enum.Declared.{tag_of}
+use types.Run.{hit}
 use borrow.Author.Tests.{eq-eqb, ne_eqb}
 use Rattle.framed.specs.declared.Value.{Value}
 use Rattle.framed.specs.declared.Text.{Text}
@@ -22,7 +21,6 @@ use Rattle.tables.specs.Entries.{expression_at}
 use Rattle.heap.specs.Words.{value_of, self_held, program_held, frame_used, slot_count_at, set_slot_value, add_slot}
 use Rattle.heap.specs.Held.{slots_held, frames_held, texts_held}
 use Rattle.paths.specs.declared.SlotFound.{SlotFound}
-use Rattle.paths.specs.contracts.SlotFound.{the_type}
 use Rattle.paths.specs.declared.Fetched.{Fetched}
 use Rattle.paths.specs.Paths.{slot_from, fetched, path_held}
 use Rattle.puts.specs.declared.PutTarget.{PutTarget}

@@ -8,8 +8,7 @@ use native.Mathlib.Decide.{ℕ_discrete}
 use lib.IntN.{ℤ, ◌+ℤ◌, ◌-ℤ◌, ◌*ℤ◌}
 use lib.Signed.{lt_z}
 use lib.Dec.{eqb, ltb}
-use types.Run.{OneOf, hit}
-use denote.Enum.Declared.{tag_of}
+use types.Run.{hit}
 use borrow.Author.Tests.{eq-eqb, ne_eqb}
 use Rattle.words.specs.Words.{pick}
 use Rattle.framed.specs.declared.Value.{Value}
@@ -20,7 +19,6 @@ use Rattle.framed.specs.Tokens.{Operator, in_range}
 use Rattle.framed.specs.Machine as M
 use Rattle.framed.specs.Machine.{Result, gives, ends, integer_in, quotient, is_join, frame_literals, join_signs}
 use Rattle.tables.specs.declared.ExpressionEntry.{ExpressionEntry}
-use Rattle.tables.specs.contracts.ExpressionEntry.{the_type}
 use Rattle.tables.specs.Entries.{expression_at}
 use Rattle.tables.specs.Fields.{expressions}
 use Rattle.trees.specs.Trees.{expression_tree}

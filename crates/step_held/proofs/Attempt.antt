@@ -28,7 +28,6 @@ use Rattle.word_store.specs.State.{store_held, state_held, HeaderFormed}
 use Rattle.word_store.proofs.Updates.{held_after, header_after}
 use Rattle.word_store.proofs.Values.{valid_named}
 use Rattle.reserving.proofs.Meaning.{reserved_closed, reserved_header}
-use Rattle.commit.specs.Commit as C
 use Rattle.commit.proofs.Headers.{kept_stays}
 use Rattle.program_fits.proofs.Laws.{well_formed_fits}
 use Rattle.running.specs.Running.{bounded_held, bounded_run, BoundedForm}

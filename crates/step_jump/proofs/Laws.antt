@@ -1,10 +1,7 @@
 -- One law for each way through a jump. Assumes nothing.
 use Prim.Native.Nat.{ℕ}
 use mathlib.Core.Path.{◌≡◌, refl}
-use mathlib.Core.List.{List, [], ◌∷◌}
-use types.Run.{OneOf}
-use denote.Enum.Declared.{tag_of}
-use Rattle.framed.specs.contracts.Value.{the_type}
+use mathlib.Core.List.{List, []}
 use Rattle.framed.specs.declared.Value.{Value}
 use Rattle.framed.specs.Machine.{defined}
 use Rattle.heap.specs.Words.{set_self, set_position}

@@ -1,19 +1,16 @@
 -- The line of an instruction, and what there being space for it, or not, says. Assumes nothing.
 use Prim.Native.Nat.{ℕ, ◌-◌, ◌<◌}
 use mathlib.Core.Path.{◌≡◌, refl, ◌∙◌, ap, sym}
-use mathlib.Core.List.{List, [], ◌∷◌}
+use mathlib.Core.List.{List, []}
 use mathlib.Core.Bool.{Bool, true, false}
 use native.Mathlib.Omega.{arith}
 use lib.Dec.{leb}
 use lib.ListN.{length}
-use types.Run.{OneOf, miss}
-use denote.Enum.Declared.{tag_of}
 use borrow.Author.Tests.{le-leb}
 use Rattle.words.specs.Words.{pick}
 use Rattle.framed.specs.declared.Value.{Value}
 use Rattle.framed.specs.Values.{Heap}
 use Rattle.tables.specs.declared.InstructionEntry.{InstructionEntry}
-use Rattle.tables.specs.contracts.InstructionEntry.{the_type}
 use Rattle.tables.specs.Entries.{instruction_at}
 use Rattle.trees.proofs.Held.{assign_self_held, assign_program_held, show_held, jump_held, ifeq_held}
 use Rattle.heap.specs.Held.{texts_held, heap_held}

@@ -2,10 +2,8 @@
 use Prim.Native.Nat.{ℕ}
 use mathlib.Core.Path.{◌≡◌, refl}
 use mathlib.Core.List.{List, [], ◌∷◌}
-use types.Run.{OneOf, hit}
-use denote.Enum.Declared.{tag_of}
+use types.Run.{hit}
 use Rattle.tables.specs.declared.InstructionEntry.{InstructionEntry}
-use Rattle.tables.specs.contracts.InstructionEntry.{the_type}
 use Rattle.tables.specs.Entries.{instruction_at}
 use Rattle.heap.specs.Words.{set_end_mark}
 use Rattle.state_form.proofs.Facts.{well_formed_sized}

@@ -9,11 +9,8 @@ use native.Mathlib.Decide.{dec_lt}
 use lib.ListN.{length, get_or, take, drop, length-drop}
 use lib.Seq.{length-take-le, get_or-take, get_or-drop, ext_get_or, drop-cons, drop-length}
 use lib.Dec.{eqb, ltb}
-use types.Run.{OneOf, miss}
-use denote.Enum.Declared.{tag_of}
 use lib.IntN.{ℤ}
 use borrow.Author.Tests.{lt-ltb, le-ltb}
-use Rattle.framed.specs.contracts.Value.{the_type}
 use Rattle.framed.specs.declared.Value.{Value}
 use Rattle.arith.specs.Arith.{nonzero}
 use Rattle.words.specs.Words.{pick, word}

@@ -9,14 +9,11 @@ use native.Mathlib.Numerals.{add-one}
 use lib.Dec.{eqb}
 use lib.ListN.{length, set, take, length-set}
 use lib.Seq.{take-suc-set, take-set-le, take-take, length-take-le}
-use types.Run.{OneOf}
-use denote.Enum.Declared.{tag_of}
 use Rattle.framed.specs.Paths.{Place, outside_code, in_code, within_slot, program_place}
 use Rattle.framed.specs.Writer.{text}
 use Rattle.tables.specs.declared.ExpressionEntry.{ExpressionEntry}
 use Rattle.tables.specs.Entries.{expression_at}
 use Rattle.tables.specs.Fields.{program_slots, link, slot_name, slot_after}
-use Rattle.tables.specs.contracts.ExpressionEntry.{the_type}
 use Rattle.tables.proofs.Walks.{link_reaches, slot_reaches}
 use Rattle.program_form.specs.Sound.{SlotPlace}
 use Rattle.trees.specs.Trees.{expression_tree}

@@ -1,4 +1,3 @@
-use Prim.Native.Nat.{◌-◌}
 use Rattle.allocation.specs.Allocation.{next_text}
 use Rattle.allocation.proofs.Laws.{seek_texts, seek_none, seek_here, seek_again}
 use Rattle.allocation.proofs.lowest_text.Goals as goal

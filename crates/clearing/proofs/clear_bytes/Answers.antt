@@ -1,5 +1,4 @@
 use Rattle.clearing.proofs.Laws.{clearing_start, clearing_again, clearing_done}
-use Prim.Native.Nat.{◌-◌}
 use Rattle.clearing.proofs.clear_bytes.Goals as goal
 
 pub loop-i-init : goal.loop-i-init

@@ -1,4 +1,3 @@
-use Prim.Native.Nat.{◌-◌}
 use native.Mathlib.Omega.{arith}
 use Rattle.heap.proofs.Loops.{tally_start}
 use Rattle.collector.proofs.Count.{mark_set, mark_clear, marks_counted}

@@ -1,4 +1,3 @@
-use Prim.Native.Nat.{◌-◌}
 use Rattle.collector.proofs.Sweep.{sweep_start, sweep_size, sweep_keep, frames_clear, frame_off, frame_on, frames_done}
 use Rattle.collector.proofs.sweep_frames.Goals as goal
 use Rattle.collector.proofs.sweep_frames.Goals.{else-marks-wide-eq0, then-marks-wide-eq0}

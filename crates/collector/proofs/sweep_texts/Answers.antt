@@ -1,4 +1,3 @@
-use Prim.Native.Nat.{◌-◌}
 use Rattle.collector.proofs.Sweep.{sweep_start, sweep_size, sweep_keep, texts_clear, text_off, text_on, texts_done}
 use Rattle.collector.proofs.sweep_texts.Goals as goal
 use Rattle.collector.proofs.sweep_texts.Goals.{else-marks-wide-eq0, then-marks-wide-eq0}

@@ -1,5 +1,4 @@
 use Rattle.emit_literals.proofs.Laws.{writing_start, writing_again, writing_done}
-use Prim.Native.Nat.{◌-◌}
 use Rattle.emit_literals.proofs.write_bytes.Goals as goal
 
 pub loop-i-init : goal.loop-i-init

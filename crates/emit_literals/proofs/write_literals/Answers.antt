@@ -1,5 +1,4 @@
 use Rattle.emit_literals.proofs.Laws.{passing_start, passing_again, passing_done}
-use Prim.Native.Nat.{◌-◌}
 use Rattle.emit_literals.proofs.write_literals.Goals as goal
 
 pub loop-k-init : goal.loop-k-init

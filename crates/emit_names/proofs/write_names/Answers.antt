@@ -1,5 +1,4 @@
 use Rattle.emit_names.proofs.Laws.{listing_start, listing_again, listing_done}
-use Prim.Native.Nat.{◌-◌}
 use Rattle.emit_names.proofs.write_names.Goals as goal
 
 pub loop-k-init : goal.loop-k-init

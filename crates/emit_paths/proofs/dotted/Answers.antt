@@ -1,5 +1,4 @@
 use Rattle.emit_paths.proofs.Laws.{dotted_start, dotted_none, dotted_half, dotted_less, dotted_again, dotted_end}
-use Prim.Native.Nat.{◌-◌}
 use Rattle.emit_paths.proofs.dotted.Goals as goal
 
 pub loop-at-init : goal.loop-at-init

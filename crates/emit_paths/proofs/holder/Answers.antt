@@ -1,6 +1,5 @@
 use mathlib.Core.Path.{refl}
 use Rattle.emit_paths.proofs.Laws.{holding_start, holding_full, holding_again, holding_done}
-use Prim.Native.Nat.{◌-◌}
 use Rattle.emit_paths.proofs.holder.Goals as goal
 
 pub loop-i-init : goal.loop-i-init

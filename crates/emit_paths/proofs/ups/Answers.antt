@@ -1,5 +1,4 @@
 use Rattle.emit_paths.proofs.Laws.{ups_start, ups_none, ups_again, ups_end}
-use Prim.Native.Nat.{◌-◌}
 use Rattle.emit_paths.proofs.ups.Goals as goal
 
 pub loop-at-init : goal.loop-at-init

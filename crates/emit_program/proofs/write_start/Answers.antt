@@ -1,5 +1,4 @@
 use Rattle.emit_program.proofs.Laws.{start_done}
-use borrow.Author.Rules.{rules}
 use Rattle.emit_program.proofs.write_start.Goals as goal
 
 -- look: slice-aggregate-number-of : tie.Need-slice-aggregate-number-of

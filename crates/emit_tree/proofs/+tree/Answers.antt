@@ -1,7 +1,5 @@
-use mathlib.Core.Logic.{⊎_elim}
 use native.Mathlib.Omega.{arith}
 use borrow.Author.Rules.{rules}
-use Prim.Native.Nat.{◌-◌}
 use Rattle.emit_tree.proofs.Bases.{operand_falls, right_falls, binary_falls, binary_falls_2, first_falls, second_falls, third_falls, seen_expression, seen_instruction, operand_done, right_done, block_none, block_falls, block_done, base_block, base_path, base_integer, base_string, negation_done, binary_done, frame_none, frame_falls, frame_done, expression_frame, expression_not, expression_outside, expression_binary, expression_base}
 use Rattle.emit_tree.proofs.Lists.{slot_falls, slot_done, slots_start, slots_end, slots_other, slots_none, slots_again, show_done, jump_done, ifeq_done, assign_done, instruction_show, instruction_jump, instruction_ifeq, instruction_assign, line_falls, line_done, lines_start, lines_end, lines_none, lines_stuck, lines_again}
 use Rattle.emit_tree.proofs.+tree.Goals as goal

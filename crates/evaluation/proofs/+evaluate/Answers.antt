@@ -1,7 +1,6 @@
 use borrow.Author.Rules.{rules}
 use Rattle.evaluation.proofs.Laws.{slots_fall, evaluate_flat, evaluate_can_fill, evaluate_full, evaluate_falls, evaluate_frame}
 use Rattle.evaluation.proofs.Laws.{fill_start, fill_size, fill_text_size, fill_done, fill_can_evaluate, fill_full, fill_falls, fill_again, base_again}
-use Prim.Native.Nat.{◌-◌}
 use Rattle.evaluation.proofs.+evaluate.Goals as goal
 
 pub evaluate-flat-requires : goal.evaluate-flat-requires

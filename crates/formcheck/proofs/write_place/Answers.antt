@@ -1,6 +1,3 @@
-use Prim.Native.Nat.{◌-◌}
-use borrow.Author.Rules.{rules}
-use Rattle.formcheck.proofs.write_place.Goals as goal
 
 -- look: slice-aggregate-put : tie.Need-slice-aggregate-put invariant-loop decreases-loop
 -- slice-aggregate-put c = search rules

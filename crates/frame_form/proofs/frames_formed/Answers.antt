@@ -1,4 +1,3 @@
-use Prim.Native.Nat.{◌-◌}
 use Rattle.frame_form.specs.Tests.{frames_formed}
 use Rattle.words.proofs.Laws.{upto_start, upto_again, upto_done}
 use Rattle.frame_form.proofs.frames_formed.Goals as goal

@@ -1,4 +1,3 @@
-use Prim.Native.Nat.{◌-◌}
 use Rattle.frame_form.specs.Tests.{name_new}
 use Rattle.words.proofs.Laws.{upto_start, upto_again, upto_done}
 use Rattle.frame_form.proofs.name_new.Goals as goal

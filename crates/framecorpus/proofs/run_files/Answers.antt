@@ -1,4 +1,3 @@
-use Prim.Native.Nat.{◌-◌}
 use Rattle.framecorpus.proofs.run_files.Goals as goal
 
 pub loop-at-init : goal.loop-at-init

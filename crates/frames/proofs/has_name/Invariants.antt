@@ -1,5 +1,4 @@
 use Rattle.frames.proofs.Laws.{Searching}
-use Prim.Native.Nat.{◌-◌}
 use Rattle.frames.proofs.has_name.Given as goal
 
 abbrev pub invariant-loop-k : goal.invariant-loop-k

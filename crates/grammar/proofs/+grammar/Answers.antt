@@ -1,6 +1,5 @@
 use native.Mathlib.Omega.{arith}
 use borrow.Author.Rules.{rules}
-use Prim.Native.Nat.{◌-◌}
 use Rattle.grammar.proofs.Laws.{assign_1, assign_2, assign_3, assign_falls, base_block, base_none, base_path, base_token, binary_1, binary_2, binary_falls, block_1, block_2, block_3, block_4, block_falls, expression_binary, expression_frame, expression_not, frame_1, frame_2, frame_3, frame_4, frame_5, frame_falls, ifeq_1, ifeq_2, ifeq_3, ifeq_4, ifeq_falls, ifeq_falls_2, ifeq_falls_3, instruction_assign, instruction_ifeq, instruction_jump, instruction_show, jump_1, jump_2, jump_3, jump_falls, jump_falls_2, list_1, list_2, list_again, list_end, list_falls, list_less, list_start, negation_1, negation_2, negation_falls, operation_1, operation_2, operation_3, operation_falls, show_1, show_2, show_falls, slots_1, slots_2, slots_3, slots_4, slots_again, slots_end, slots_falls, slots_less, slots_start}
 use Rattle.grammar.proofs.+grammar.Goals as goal
 

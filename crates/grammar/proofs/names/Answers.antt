@@ -1,4 +1,3 @@
-use Prim.Native.Nat.{◌-◌}
 use Rattle.grammar.proofs.Paths.{leads_less, names_start, names_stop, names_end, names_again}
 use Rattle.grammar.proofs.names.Goals as goal
 

@@ -1,4 +1,3 @@
-use Prim.Native.Nat.{◌-◌}
 use Rattle.grammar.proofs.Paths.{leads_less, ups_start, ups_stop, ups_end, ups_again}
 use Rattle.grammar.proofs.ups.Goals as goal
 

@@ -1,4 +1,3 @@
-use Prim.Native.Nat.{◌-◌}
 use Rattle.heap.proofs.Loops.{tally_start, tally_yes, tally_no, frames_counted}
 use Rattle.heap.proofs.count_frames.Goals as goal
 use Rattle.heap.proofs.count_frames.Goals.{else-frame_used, then-frame_used}

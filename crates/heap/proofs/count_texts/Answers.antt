@@ -1,4 +1,3 @@
-use Prim.Native.Nat.{◌-◌}
 use Rattle.heap.proofs.Loops.{tally_start, tally_yes, tally_no, texts_counted}
 use Rattle.heap.proofs.count_texts.Goals as goal
 use Rattle.heap.proofs.count_texts.Goals.{else-text_used, then-text_used}

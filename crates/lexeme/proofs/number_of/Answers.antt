@@ -1,4 +1,3 @@
-use Prim.Native.Nat.{◌-◌}
 use Rattle.lexeme.proofs.Laws.{numbering_start, numbering_again, numbering_done}
 use Rattle.lexeme.proofs.number_of.Goals as goal
 

@@ -1,5 +1,4 @@
 use borrow.Author.Tests.{not-true, not-false}
-use Prim.Native.Nat.{◌-◌}
 use Rattle.lexeme.proofs.Laws.{running_start, running_stop, running_again, running_done}
 use Rattle.lexeme.proofs.run_end.Goals as goal
 

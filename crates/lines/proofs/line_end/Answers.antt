@@ -1,4 +1,3 @@
-use Prim.Native.Nat.{◌-◌}
 use Rattle.lines.proofs.Laws.{line_start, line_on, line_broken, line_done}
 use Rattle.lines.proofs.line_end.Goals as goal
 

@@ -1,4 +1,3 @@
-use Prim.Native.Nat.{◌-◌}
 use Rattle.look_names.proofs.Laws.{lengths_apart, comparing_start, comparing_apart, comparing_again, comparing_done}
 use Rattle.look_names.proofs.is_name.Goals as goal
 

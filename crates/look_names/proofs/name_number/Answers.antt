@@ -1,4 +1,3 @@
-use Prim.Native.Nat.{◌-◌}
 use Rattle.look_names.proofs.Laws.{seeking_start, seeking_found, seeking_again, seeking_done}
 use Rattle.look_names.proofs.name_number.Goals as goal
 

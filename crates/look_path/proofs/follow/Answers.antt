@@ -1,4 +1,3 @@
-use Prim.Native.Nat.{◌-◌}
 use Rattle.look_path.proofs.Laws.{follow_start, follow_end, follow_other, follow_less, follow_again, follow_done}
 use Rattle.look_path.proofs.follow.Goals as goal
 

@@ -1,4 +1,3 @@
-use Prim.Native.Nat.{◌-◌}
 use mathlib.Core.Path.{◌∙◌}
 use Rattle.makers.proofs.Counts.{none_counted, can_count, not_marked, one_more, all_counted}
 use Rattle.makers.proofs.count_marked.Goals as goal

@@ -1,4 +1,3 @@
-use Prim.Native.Nat.{◌-◌}
 use Rattle.mark.proofs.MarkLaws.{queue_start, queue_done, queue_below, queue_scaled, queue_one_more, queue_falls, queue_scans, queue_again}
 use Rattle.mark.proofs.mark_queue.Goals as goal
 

@@ -1,4 +1,3 @@
-use Prim.Native.Nat.{◌-◌}
 use Rattle.mark.proofs.MarkLaws.{scan_start, scan_done, scan_visitable, scan_again}
 use Rattle.mark.proofs.visit_slots.Goals as goal
 

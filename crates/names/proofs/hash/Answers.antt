@@ -1,4 +1,3 @@
-use Prim.Native.Nat.{◌-◌}
 use Rattle.names.proofs.Laws.{hashing_start, hashing_again, hashing_done, hash_small}
 use Rattle.names.proofs.hash.Goals as goal
 

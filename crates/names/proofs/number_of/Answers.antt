@@ -1,5 +1,4 @@
 use Rattle.names.proofs.Numbers.{seek_start, seek_found, seek_again, seek_end}
-use Prim.Native.Nat.{◌-◌}
 use Rattle.names.proofs.number_of.Goals as goal
 
 pub loop-k-init : goal.loop-k-init

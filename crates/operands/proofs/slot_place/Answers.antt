@@ -1,4 +1,3 @@
-use Prim.Native.Nat.{◌-◌}
 use Rattle.words.specs.Words.{word}
 use Rattle.operands.proofs.Numbers.{seek_start, seek_gone, seek_here, seek_again}
 use Rattle.operands.proofs.slot_place.Goals as goal

@@ -1,4 +1,4 @@
-use Prim.Native.Nat.{◌+◌, ◌-◌}
+use Prim.Native.Nat.{◌+◌}
 use Rattle.words.specs.Words.{word}
 use Rattle.operands.proofs.Numbers.{along_start, walked_low, walked_past, walked_free, walked_many, walked_missing, along_again, walked_high, walked_value}
 use Rattle.operands.proofs.walk.Goals as goal

@@ -1,4 +1,3 @@
-use Prim.Native.Nat.{◌-◌}
 use Rattle.paths.proofs.Laws.{walk_start, walk_done, walk_undefined, walk_again}
 use Rattle.paths.proofs.fetch.Goals as goal
 

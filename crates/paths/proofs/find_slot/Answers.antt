@@ -1,4 +1,3 @@
-use Prim.Native.Nat.{◌-◌}
 use Rattle.paths.proofs.Laws.{find_start, find_gone, find_here, find_again}
 use Rattle.paths.proofs.find_slot.Goals as goal
 

@@ -1,4 +1,3 @@
-use Prim.Native.Nat.{◌-◌}
 use Rattle.program_entries.specs.Tests.{codes_ok}
 use Rattle.words.proofs.Laws.{upto_start, upto_again, upto_end}
 use Rattle.program_entries.proofs.codes_ok.Goals as goal

@@ -1,4 +1,3 @@
-use Prim.Native.Nat.{◌-◌}
 use Rattle.program_entries.specs.Tests.{expressions_ok}
 use Rattle.words.proofs.Laws.{upto_start, upto_again, upto_end}
 use Rattle.program_entries.proofs.expressions_ok.Goals as goal

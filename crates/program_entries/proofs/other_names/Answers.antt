@@ -1,4 +1,3 @@
-use Prim.Native.Nat.{◌-◌}
 use Rattle.tables.proofs.Walks.{along_start}
 use Rattle.program_entries.proofs.Laws.{other_ended, other_again, other_done}
 use Rattle.program_entries.proofs.other_names.Goals as goal

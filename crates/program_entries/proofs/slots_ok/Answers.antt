@@ -1,4 +1,3 @@
-use Prim.Native.Nat.{◌-◌}
 use Rattle.tables.proofs.Walks.{along_start}
 use Rattle.program_entries.proofs.Laws.{slots_ended, slot_again, slots_done}
 use Rattle.program_entries.proofs.slots_ok.Goals as goal

@@ -1,4 +1,3 @@
-use native.Mathlib.Omega.{arith}
 use borrow.Author.Rules.{rules}
 use Rattle.program_equality.proofs.Bases.{base_apart, base_asked, base_codes, base_integers, base_literals, base_paths, code_asked, expression_apart}
 use Rattle.program_equality.proofs.Bases.{expression_bases, expression_frames, expression_nots, expression_operations, first_falls, frame_asked}
@@ -9,7 +8,6 @@ use Rattle.program_equality.proofs.Instructions.{instruction_jumps, instruction_
 use Rattle.program_equality.proofs.Loops.{instruction_falls, list_less, lists_again, lists_apart, lists_end, lists_start, second_shorter, slot_falls}
 use Rattle.program_equality.proofs.Loops.{slot_less, slots_again, slots_apart, slots_end, slots_fewer, slots_named_apart, slots_start, two_instructions}
 use Rattle.program_equality.proofs.Loops.{two_slots}
-use Prim.Native.Nat.{◌+◌}
 use Rattle.program_equality.proofs.+same.Goals as goal
 
 pub same_base-returns-then-expression_kind-kind : goal.same_base-returns-then-expression_kind-kind

@@ -1,4 +1,3 @@
-use Prim.Native.Nat.{◌-◌}
 use Rattle.texts.proofs.Laws.{comparing_start, comparing_again, comparing_done, lengths_apart}
 use Rattle.program_equality.proofs.same_words.Goals as goal
 

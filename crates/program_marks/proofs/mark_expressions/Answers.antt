@@ -1,4 +1,3 @@
-use Prim.Native.Nat.{◌-◌}
 use Rattle.program_marks.proofs.Laws.{done_start, expressions_again, expressions_done}
 use Rattle.program_marks.proofs.mark_expressions.Goals as goal
 

@@ -1,4 +1,3 @@
-use Prim.Native.Nat.{◌-◌}
 use Rattle.program_marks.proofs.Laws.{done_start, firsts_again, firsts_done}
 use Rattle.program_marks.proofs.mark_firsts.Goals as goal
 

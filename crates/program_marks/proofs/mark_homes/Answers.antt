@@ -1,4 +1,3 @@
-use Prim.Native.Nat.{◌-◌}
 use Rattle.program_marks.proofs.Laws.{done_start, homes_again, homes_done}
 use Rattle.program_marks.proofs.mark_homes.Goals as goal
 

@@ -1,4 +1,3 @@
-use Prim.Native.Nat.{◌-◌}
 use Rattle.program_marks.proofs.Laws.{done_start, instructions_again, instructions_done}
 use Rattle.program_marks.proofs.mark_instructions.Goals as goal
 

@@ -1,4 +1,3 @@
-use Prim.Native.Nat.{◌-◌}
 use Rattle.program_marks.proofs.Laws.{done_start, names_again, names_done}
 use Rattle.program_marks.proofs.mark_names.Goals as goal
 

@@ -1,4 +1,3 @@
-use Prim.Native.Nat.{◌-◌}
 use Rattle.program_marks.proofs.Laws.{done_start, nexts_again, nexts_done}
 use Rattle.program_marks.proofs.mark_nexts.Goals as goal
 

@@ -1,4 +1,3 @@
-use Prim.Native.Nat.{◌-◌}
 use Rattle.program_marks.proofs.Laws.{marking_start, marking_again, marking_ended, marking_ended_size, marking_done, marking_size}
 use Rattle.program_marks.proofs.mark_slots.Goals as goal
 

@@ -1,4 +1,3 @@
-use Prim.Native.Nat.{◌-◌}
 use Rattle.words.proofs.Laws.{upto_start, upto_again, upto_done}
 use Rattle.program_names.specs.Tests.{literal_bytes_ok}
 use Rattle.program_names.proofs.Laws.{literal_bytes_end}

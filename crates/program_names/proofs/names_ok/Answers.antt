@@ -1,4 +1,3 @@
-use Prim.Native.Nat.{◌-◌}
 use Rattle.program_names.proofs.Keys.{keyed_start, keyed_again, keyed_done}
 use Rattle.program_names.proofs.names_ok.Goals as goal
 

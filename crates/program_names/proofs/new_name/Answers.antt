@@ -1,4 +1,3 @@
-use Prim.Native.Nat.{◌-◌}
 use Rattle.program_names.specs.Tests.{new_name}
 use Rattle.words.proofs.Laws.{upto_start, upto_again, upto_done}
 use Rattle.program_names.proofs.new_name.Goals as goal

@@ -1,4 +1,3 @@
-use Prim.Native.Nat.{◌-◌}
 use Rattle.words.proofs.Laws.{upto_start, upto_done}
 use Rattle.program_names.specs.Keys.{other_keys}
 use Rattle.program_names.proofs.Keys.{other_again}

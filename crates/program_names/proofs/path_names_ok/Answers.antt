@@ -1,4 +1,3 @@
-use Prim.Native.Nat.{◌-◌}
 use Rattle.program_names.specs.Tests.{path_names_ok}
 use Rattle.words.proofs.Laws.{upto_start, upto_again, upto_end}
 use Rattle.program_names.proofs.path_names_ok.Goals as goal

@@ -1,5 +1,4 @@
 use mathlib.Core.Bool.{true}
-use Prim.Native.Nat.{◌-◌}
 use Rattle.words.proofs.Laws.{upto_start}
 use Rattle.program_names.proofs.Laws.{same_end, same_differ, same_again, same_done}
 use Rattle.program_names.proofs.same_bytes.Goals as goal

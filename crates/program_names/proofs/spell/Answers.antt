@@ -1,4 +1,3 @@
-use Prim.Native.Nat.{◌-◌}
 use Rattle.program_names.proofs.Keys.{spelling_start, spelling_again, plain_end, plain_done, spelled_end, spelled_done}
 use Rattle.program_names.proofs.spell.Goals as goal
 

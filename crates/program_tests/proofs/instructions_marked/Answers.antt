@@ -1,4 +1,3 @@
-use Prim.Native.Nat.{◌-◌}
 use Rattle.program_parts.specs.Tests.{instructions_marked}
 use Rattle.words.proofs.Laws.{upto_start, upto_end}
 use Rattle.program_tests.proofs.Laws.{instruction_again}

@@ -1,5 +1,4 @@
 use Rattle.tables.proofs.Walks.{along_start}
-use Prim.Native.Nat.{◌-◌}
 use Rattle.program_tests.proofs.Laws.{along_again, along_none, along_done}
 use Rattle.program_tests.proofs.slots_marked.Goals as goal
 

@@ -1,4 +1,3 @@
-use Prim.Native.Nat.{◌-◌}
 use Rattle.replaycorpus.proofs.replay_files.Goals as goal
 
 pub loop-at-init : goal.loop-at-init

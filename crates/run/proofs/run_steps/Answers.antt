@@ -1,4 +1,3 @@
-use Prim.Native.Nat.{◌-◌}
 use borrow.Author.Rules.{rules}
 use Rattle.run.proofs.Laws.{run_starts, starts_knowing, returns_marked, returns_done, can_attempt, returns_stopped, used_fits, goes_on, returns_spent}
 use Rattle.run.proofs.run_steps.Goals as goal

@@ -1,5 +1,4 @@
 use Rattle.slots.proofs.Laws.{pass_start, pass_end, pass_none, pass_bad, pass_again, pass_less, pass_done}
-use Prim.Native.Nat.{◌-◌}
 use Rattle.slots.proofs.bad_frame.Goals as goal
 
 pub loop-at-init : goal.loop-at-init

@@ -1,5 +1,5 @@
 use Rattle.slots.proofs.Laws.{collect_start, collect_end, collect_none, collect_plain, collect_closes, collect_repeated, collect_few, collect_many, collect_shallow, collect_again, collect_done, clear_start, clear_again, checks}
-use Prim.Native.Nat.{◌-◌, ◌<◌}
+use Prim.Native.Nat.{◌<◌}
 use native.Mathlib.Omega.{arith}
 use Rattle.token.proofs.Answers.{token_less}
 use borrow.Author.Rules.{rules}

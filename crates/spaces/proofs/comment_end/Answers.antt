@@ -1,4 +1,3 @@
-use Prim.Native.Nat.{◌-◌}
 use Rattle.spaces.proofs.Laws.{comment_start, comment_here, comment_again, comment_done}
 use Rattle.spaces.proofs.comment_end.Goals as goal
 

@@ -1,4 +1,3 @@
-use Prim.Native.Nat.{◌-◌}
 use Rattle.spaces.proofs.Laws.{skipping_start, skipping_stop, skipping_again, skipping_less, skipping_done}
 use Rattle.spaces.proofs.skip.Goals as goal
 

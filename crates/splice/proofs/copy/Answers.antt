@@ -1,4 +1,3 @@
-use Prim.Native.Nat.{◌-◌}
 use Rattle.splice.proofs.Laws.{writing_start, writing_done, writing_again}
 use Rattle.splice.proofs.copy.Goals as goal
 

@@ -1,5 +1,4 @@
 use Rattle.start.proofs.Laws.{find_start, find_end, find_none, find_closes, find_found, find_shallow, find_again, find_done}
-use Prim.Native.Nat.{◌-◌}
 use Rattle.token.proofs.Answers.{token_less}
 use borrow.Author.Rules.{rules}
 use Rattle.start.proofs.find_slot.Goals as goal

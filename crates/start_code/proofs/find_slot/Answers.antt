@@ -1,5 +1,4 @@
 use Rattle.start_code.proofs.Laws.{find_start, find_end, find_none, find_here, find_again}
-use Prim.Native.Nat.{◌-◌}
 use Rattle.start_code.proofs.find_slot.Goals as goal
 
 pub loop-i-init : goal.loop-i-init

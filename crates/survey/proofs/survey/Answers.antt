@@ -1,5 +1,4 @@
 use borrow.Author.Rules.{rules}
-use Prim.Native.Nat.{◌-◌}
 use Rattle.reader.proofs.Laws.{read_less}
 use Rattle.scan.proofs.Laws.{scan_store_end}
 use Rattle.survey.proofs.Laws.{survey_start, survey_sizes, survey_cached, survey_few, survey_placed, survey_depth, survey_room, survey_done, survey_end, survey_none, survey_take, survey_again, stands_here}

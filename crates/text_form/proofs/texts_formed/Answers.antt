@@ -1,4 +1,3 @@
-use Prim.Native.Nat.{◌-◌}
 use Rattle.text_form.specs.Tests.{texts_formed}
 use Rattle.words.proofs.Laws.{upto_start, upto_again, upto_done}
 use Rattle.text_form.proofs.texts_formed.Goals as goal

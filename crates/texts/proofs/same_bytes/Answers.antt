@@ -1,4 +1,3 @@
-use Prim.Native.Nat.{◌-◌}
 use Rattle.texts.proofs.Laws.{comparing_start, comparing_again, comparing_done, lengths_apart}
 use Rattle.texts.proofs.same_bytes.Goals as goal
 

@@ -1,4 +1,3 @@
-use Prim.Native.Nat.{◌-◌}
 use Rattle.tokendump.proofs.main.Goals as goal
 
 pub loop-i-init : goal.loop-i-init

@@ -1,4 +1,3 @@
-use Prim.Native.Nat.{◌-◌}
 use Rattle.reader.proofs.Laws.{read_less}
 use Rattle.tokendump.proofs.write_tokens.Goals as goal
 

@@ -1,5 +1,4 @@
 use Rattle.write_words.proofs.Paths.{climbing_start, climbing_again, climbing_done}
-use Prim.Native.Nat.{◌-◌}
 use Rattle.write_words.proofs.append_climbs.Goals as goal
 
 pub loop-i-init : goal.loop-i-init

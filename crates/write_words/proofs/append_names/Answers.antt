@@ -1,6 +1,5 @@
 use Rattle.write_words.proofs.Paths.{path_fits, path_at_name, naming_start, naming_again, naming_done}
 use Rattle.write_words.proofs.Laws.{can_append}
-use Prim.Native.Nat.{◌-◌}
 use borrow.Author.Rules.{rules}
 use Rattle.write_words.proofs.append_names.Goals as goal
 

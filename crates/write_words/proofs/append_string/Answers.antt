@@ -1,4 +1,4 @@
-use Rattle.write_words.proofs.Words.{string_end, string_appended}
+use Rattle.write_words.proofs.Words.{string_appended}
 use Rattle.write_words.proofs.Laws.{can_append}
 use Rattle.write_words.proofs.append_string.Goals as goal
 

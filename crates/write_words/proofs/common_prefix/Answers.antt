@@ -1,5 +1,4 @@
 use Rattle.write_words.proofs.Paths.{path_fits, comparing_start, comparing_past, comparing_apart, comparing_again, comparing_done}
-use Prim.Native.Nat.{◌-◌}
 use borrow.Author.Rules.{rules}
 use Rattle.write_words.proofs.common_prefix.Goals as goal
 

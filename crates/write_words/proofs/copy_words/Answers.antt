@@ -1,4 +1,3 @@
-use Prim.Native.Nat.{◌-◌}
 use Rattle.splice.proofs.Laws.{writing_start, writing_done, writing_again}
 use Rattle.write_words.proofs.Words.{word_fits}
 use Rattle.write_words.proofs.copy_words.Goals as goal
