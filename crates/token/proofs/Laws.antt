@@ -387,14 +387,17 @@ module _ (c : Classes) (s : List ℕ) (at i : ℕ) (w : Skips c s at i) where
   token_read r m = record { says = rw w.gone m.says; on = later r m.on; first = λ e. first_is r m.on e; plain = λ e. plain_is r m.on e }
     where
       later : (r : TokenRead) → Here i (length s) r → Within at (length s) r
+      later TokenRead.End x = elim x [ ]
       later TokenRead.NoToken refused = Within.refused
       later (TokenRead.Token k _ p x) (here h) = within {k = k} {a = i} {p = p} (record { known = h.known; begins = w.begins; more = h.more; inside = h.inside })
 
       first_is : (r : TokenRead) {k a p x : ℕ} → Here i (length s) r → r ≡ TokenRead.Token k a p x → skip c (rest s at) ≡ rest s a
+      first_is TokenRead.End {k = k} {a = a} {p = p} x e = elim x [ ]
       first_is TokenRead.NoToken refused e = absurd (no_token≢token_read e)
       first_is (TokenRead.Token k' _ p' x') {k} {a} (here h) e = let f : i ≡ a = cc in rw (← f) w.gone
 
       plain_is : (r : TokenRead) {k a p x : ℕ} → Here i (length s) r → r ≡ TokenRead.Token k a p x → (k ≡ 26 → ⊥) → x ≡ 0
+      plain_is TokenRead.End {k = k} {a = a} {p = p} {x = x} y e n = elim y [ ]
       plain_is TokenRead.NoToken refused e n = absurd (no_token≢token_read e)
       plain_is (TokenRead.Token k' _ p' x') {k} {a} {p} {x} (here h) e n =
           let f : k' ≡ k = cc in

@@ -83,6 +83,7 @@ fn string_at(t: &[u8; 256], s: &[u8], at: usize) -> TokenRead
 }
 
 // The kind of a mark of one byte; 29 where it is none.
+#[tactic(auto, unfolding(crate::specs::Beginning::mark_kind))]
 fn kind_of_mark(b: u8) -> u32
     ensures { result ≡ mark_kind b }
 {

@@ -1,7 +1,7 @@
 use Rattle.token.proofs.Laws.{name_begins, digit_begins, read_a_name, read_a_natural, read_a_string, read_a_mark, minus_begins, read_a_negative, read_a_minus, zero_class}
 use borrow.Author.Rules.{rules}
 use Rattle.token.proofs.read_at.Goals as goal
-use Rattle.token.proofs.read_at.Goals.{else-b-eq45, then-b-eq45}
+use Rattle.token.proofs.read_at.Goals.{then-b-eq45+else-j-eq3, else-b-eq45}
 
 pub name_at-requires : goal.name_at-requires
 name_at-requires c = record { table = search rules; run = search name_begins }
@@ -28,4 +28,4 @@ pub returns-then-j-eq3 : goal.returns-then-j-eq3
 returns-then-j-eq3 c = search (read_a_negative, zero_class)
 
 pub returns : goal.returns
-returns c = elim c.if-b-eq45.branch [ then-b-eq45 w ↦ search (read_a_minus, zero_class) | else-b-eq45 w ↦ search read_a_mark ]
+returns c = elim c.if-b-eq45.branch [ then-b-eq45+else-j-eq3 w ↦ search (read_a_minus, zero_class) | else-b-eq45 w ↦ search read_a_mark ]
