@@ -21,6 +21,10 @@ widens f = rw (back f) (sfits_widen {w = w32} {w' = w64} tt f)
 pub wide : {z : ℤ} → SFits w32 z → to_z w64 (of_z w64 (to_z w32 (of_z w32 z))) ≡ z
 wide f = to_z-of_z (widens f) ∙ back f
 
+-- the number of 64 bits that the code makes of one of 32
+abbrev pub widened : ℤ → ℤ
+widened z = to_z w64 (of_z w64 (to_z w32 (of_z w32 z)))
+
 mag_cond : (t : Bool) (x y k : ℕ) → x ≤ k → y ≤ k → mag (cond t (negsuc x) (pos y)) ≤ k
 mag_cond true x y k h g = h
 mag_cond false x y k h g = g
@@ -64,11 +68,27 @@ module _ {a b : ℤ} (f : SFits w32 a) (g : SFits w32 b) where
   pub add_fits : SFits w64 (a +ℤ b)
   add_fits = let l = mag_add a b 2147483648 (omega (arith, f.sfits)) (omega (arith, g.sfits)) in record { sfits = omega arith }
 
+  -- what the code makes is the sum
+  pub add_wide : to_z w64 (of_z w64 (widened a +ℤ widened b)) ≡ (a +ℤ b)
+  add_wide = rw (wide f, wide g) (to_z-of_z add_fits)
+
   pub sub_fits : SFits w64 (a -ℤ b)
   sub_fits = let l = mag_add a (neg_ℤ b) 2147483648 (omega (arith, f.sfits)) (mag_neg b 2147483648 g.sfits) in record { sfits = omega arith }
+
+  -- what the code makes is the difference
+  pub sub_wide : to_z w64 (of_z w64 (widened a -ℤ widened b)) ≡ (a -ℤ b)
+  sub_wide = rw (wide f, wide g) (to_z-of_z sub_fits)
 
   pub mul_fits : SFits w64 (a *ℤ b)
   mul_fits = let l = mag_mul a b 2147483648 f.sfits g.sfits in record { sfits = omega arith }
 
+  -- what the code makes is the product
+  pub mul_wide : to_z w64 (of_z w64 (widened a *ℤ widened b)) ≡ (a *ℤ b)
+  mul_wide = rw (wide f, wide g) (to_z-of_z mul_fits)
+
   pub quot_fits : SFits w64 (quot_z a b)
   quot_fits = let l = mag_quot a b 2147483648 f.sfits in record { sfits = omega arith }
+
+  -- what the code makes is the quotient
+  pub quot_wide : to_z w64 (of_z w64 (quot_z (widened a) (widened b))) ≡ quot_z a b
+  quot_wide = rw (wide f, wide g) (to_z-of_z quot_fits)

@@ -1,7 +1,7 @@
 use mathlib.Core.Path.{ap, ◌∙◌}
 use mir.Facts.{to_z-of_z}
 use Rattle.bounded.specs.Operations.{ranged}
-use Rattle.arith.proofs.Wide.{widens, wide, quot_fits}
+use Rattle.arith.proofs.Wide.{widens, wide, quot_fits, quot_wide}
 use Rattle.arith.proofs.Laws.{over_zero, over_some, wide_bits}
 use Rattle.arith.proofs.over.Goals as goal
 
@@ -23,4 +23,4 @@ nonzero_div-a c = (
 pub returns : goal.returns
 returns c =
     rw (over_some c.args.a c.args.b c.if-b-eq0.false)
-    (c.exact.ensures ∙ ap ranged (to_z-of_z (nonzero_div-a c).1 ∙ rw (wide c.ranges.a, wide c.ranges.b)))
+    (c.exact.ensures ∙ ap ranged (quot_wide c.ranges.a c.ranges.b))

@@ -1,7 +1,6 @@
 use mathlib.Core.Path.{ap, ◌∙◌}
-use mir.Facts.{to_z-of_z}
 use Rattle.bounded.specs.Operations.{ranged}
-use Rattle.arith.proofs.Wide.{widens, wide, add_fits}
+use Rattle.arith.proofs.Wide.{widens, wide, add_fits, add_wide}
 use Rattle.arith.proofs.plus.Goals as goal
 
 pub overflow_cast-a : goal.overflow_cast-a
@@ -14,4 +13,4 @@ pub overflow_add-a : goal.overflow_add-a
 overflow_add-a c = rw (wide c.ranges.a, wide c.ranges.b) (add_fits c.ranges.a c.ranges.b)
 
 pub returns : goal.returns
-returns c = c.exact.ensures ∙ ap ranged (to_z-of_z (overflow_add-a c) ∙ rw (wide c.ranges.a, wide c.ranges.b))
+returns c = c.exact.ensures ∙ ap ranged (add_wide c.ranges.a c.ranges.b)

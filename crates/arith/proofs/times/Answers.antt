@@ -1,7 +1,6 @@
 use mathlib.Core.Path.{ap, ◌∙◌}
-use mir.Facts.{to_z-of_z}
 use Rattle.bounded.specs.Operations.{ranged}
-use Rattle.arith.proofs.Wide.{widens, wide, mul_fits}
+use Rattle.arith.proofs.Wide.{widens, wide, mul_fits, mul_wide}
 use Rattle.arith.proofs.times.Goals as goal
 
 pub overflow_cast-a : goal.overflow_cast-a
@@ -14,4 +13,4 @@ pub overflow_mul-a : goal.overflow_mul-a
 overflow_mul-a c = rw (wide c.ranges.a, wide c.ranges.b) (mul_fits c.ranges.a c.ranges.b)
 
 pub returns : goal.returns
-returns c = c.exact.ensures ∙ ap ranged (to_z-of_z (overflow_mul-a c) ∙ rw (wide c.ranges.a, wide c.ranges.b))
+returns c = c.exact.ensures ∙ ap ranged (mul_wide c.ranges.a c.ranges.b)
