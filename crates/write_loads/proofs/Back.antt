@@ -1,6 +1,6 @@
 -- Every word of the text of a program is read again: its names and literals are tokens of the source, and its integers are in range. Assumes nothing.
 use mathlib.Core.List.{List, [], ◌∷◌, ◌++◌}
-use Prim.Native.Nat.{ℕ, zero, suc, ◌<◌}
+use Prim.Native.Nat.{ℕ, zero, suc, ◌+◌, ◌<◌}
 use native.Mathlib.Omega.{arith}
 use lib.ListN.{length, get_or}
 use Rattle.framed.specs.Common.{◌∈◌, here, later}
@@ -26,6 +26,7 @@ entry_in d (x ∷ xs) (suc k) lt = later (entry_in d xs k (omega arith))
 -- a literal is a string of the tokens
 literal_in : (ts : List Token) {w : List ℕ} → w ∈ literals ts → Token.string w ∈ ts
 unfolding literals
+literal_in [] {w = w} m = elim m [ ]
 literal_in (Token.name v ∷ ts) m = later (literal_in ts m)
 literal_in (Token.integer z ∷ ts) m = later (literal_in ts m)
 literal_in (Token.string v ∷ ts) here = here
@@ -40,6 +41,7 @@ module _ (c : Classes) where
     more : {t : Token} {ts : List Token} → Back c t → AllBack ts → AllBack (t ∷ ts)
 
   back_in : {ts : List Token} {t : Token} → AllBack ts → t ∈ ts → Back c t
+  back_in {t = t} AllBack.none m = elim m [ ]
   back_in (AllBack.more b bs) here = b
   back_in (AllBack.more b bs) (later m) = back_in bs m
 
@@ -72,6 +74,6 @@ module _ (c : Classes) where
           AllBack.more (back_in all ((names_exact.exactly ts (get_or (name_table ts) n [])).0 (entry_in [] (name_table ts) n lt))) (spelled_back s k us o)
       spelled_back s k (Symbol.integer z ∷ us) (Ordered.integer r o) = AllBack.more (integer_back c lawful z r) (spelled_back s k us o)
       spelled_back s k (Symbol.string _ ∷ us) (Ordered.string lt o) =
-          AllBack.more (back_in all (literal_in ts (entry_in [] (literals ts) s lt))) (spelled_back _ k us o)
-      spelled_back s k (Symbol.code _ ∷ us) (Ordered.code o) = AllBack.more (code_back c lawful) (spelled_back s _ us o)
+          AllBack.more (back_in all (literal_in ts (entry_in [] (literals ts) s lt))) (spelled_back (s + 1) k us o)
+      spelled_back s k (Symbol.code _ ∷ us) (Ordered.code o) = AllBack.more (code_back c lawful) (spelled_back s (k + 1) us o)
       spelled_back s k (Symbol.fixed f ∷ us) (Ordered.fixed o) = AllBack.more (fixed_back c lawful f) (spelled_back s k us o)
