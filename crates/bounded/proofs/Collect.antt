@@ -11,7 +11,7 @@ use lib.Dec.{leb, ltb}
 use borrow.Author.Tests.{leb-true, ltb-false, le-ltb}
 use Rattle.framed.specs.declared.Value.{Value}
 use Rattle.framed.specs.declared.Text.{Text}
-use Rattle.framed.specs.Common.{if◌then◌else◌, member}
+use Rattle.framed.specs.Common.{when◌then◌else◌, member}
 use Rattle.framed.specs.Tree.{Instruction}
 use Rattle.framed.specs.Paths.{Path}
 use Rattle.framed.specs.Program.{Program}
@@ -219,7 +219,7 @@ module _ {S : Type 0} (𝓞 : Store S) (p : Program) (𝓛 : Laws 𝓞 p) (fits 
 
     -- the choice of 36, 37 or 0
     room_choice : Bool → Bool → ℕ
-    room_choice t u = if t then 36 else if u then 37 else 0
+    room_choice t u = when t then 36 else when u then 37 else 0
 
     unbounded_choice : (i : Instruction Path) →
         M.reserve F T s.heap.frames s.self s.program i
@@ -281,7 +281,7 @@ module _ {S : Type 0} (𝓞 : Store S) (p : Program) (𝓛 : Laws 𝓞 p) (fits 
         after : Reserves i (swept ok)
         after = by_tests i (swept ok) collected_related (ap (λ (n : ℕ). ltb F (n + f)) counts_frames) (ap (λ (n : ℕ). ltb T (n + t)) counts_texts)
 
-        step : (u v : Bool) → leb (frame_count b.store + f) F ≡ u → leb (text_count b.store + t) T ≡ v → Reserves i (if u && v then b.store else swept ok)
+        step : (u v : Bool) → leb (frame_count b.store + f) F ≡ u → leb (text_count b.store + t) T ≡ v → Reserves i (when u && v then b.store else swept ok)
         step true true d e =
             let g = leb-true (frame_count b.store + f) F d in
             let h = leb-true (text_count b.store + t) T e in

@@ -14,7 +14,7 @@ use lib.Dec.{leb, ltb}
 use borrow.Author.Tests.{leb-true, ltb-true, le-leb, ne_eqb}
 use Rattle.framed.specs.declared.Value.{Value}
 use Rattle.framed.specs.declared.Text.{Text}
-use Rattle.framed.specs.Common.{if◌then◌else◌, bytes}
+use Rattle.framed.specs.Common.{when◌then◌else◌, bytes}
 use Rattle.framed.specs.Bytes.{string_byte}
 use Rattle.framed.specs.Tokens.{Operator, in_range}
 use Rattle.framed.specs.Values.{Heap, text_bytes, digits_within, decimal, shown, join_bytes, bit}
@@ -39,7 +39,7 @@ ranged_is : (z : ℤ) (h : Heap) → integer_result z h ≡ keep (ranged z) h
 unfolding integer_result ranged keep kept
 ranged_is z h = step (in_range z)
   where
-    step : (t : Bool) → (if t then gives (record { value = Value.Int z; heap = h }) else ends 33) ≡ keep (if t then gives (number z) else ends 33) h
+    step : (t : Bool) → (when t then gives (record { value = Value.Int z; heap = h }) else ends 33) ≡ keep (when t then gives (number z) else ends 33) h
     step true = refl
     step false = refl
 
@@ -48,8 +48,8 @@ unfolding new_text measured keep kept
 measured_is bs h = step (leb (length bs) 64)
   where
     step : (t : Bool) →
-        (if t then gives (record { value = Value.Text (Text.Made (length h.texts)); heap = with_text bs h }) else ends 34)
-        ≡ keep (if t then gives (text bs) else ends 34) h
+        (when t then gives (record { value = Value.Text (Text.Made (length h.texts)); heap = with_text bs h }) else ends 34)
+        ≡ keep (when t then gives (text bs) else ends 34) h
     step true = refl
     step false = refl
 
@@ -141,7 +141,7 @@ ranged_small : {c : ℕ} (z : ℤ) → Outcome c (ranged z)
 unfolding ranged
 ranged_small {c} z = step (in_range z) refl
   where
-    step : (t : Bool) → in_range z ≡ t → Outcome c (if t then gives (number z) else ends 33)
+    step : (t : Bool) → in_range z ≡ t → Outcome c (when t then gives (number z) else ends 33)
     step true e = succeeds (small_number e)
     step false e = fails
 
@@ -149,7 +149,7 @@ measured_small : (bs : List ℕ) → StringBytes bs → Outcome 1 (measured bs)
 unfolding measured
 measured_small bs s = step (leb (length bs) 64) refl
   where
-    step : (t : Bool) → leb (length bs) 64 ≡ t → Outcome 1 (if t then gives (text bs) else ends 34)
+    step : (t : Bool) → leb (length bs) 64 ≡ t → Outcome 1 (when t then gives (text bs) else ends 34)
     step true e = succeeds (small_text (leb-true (length bs) 64 e) s)
     step false e = fails
 

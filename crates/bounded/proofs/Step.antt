@@ -9,7 +9,7 @@ use Prim.Native.Nat.{ℕ, zero, suc, ◌+◌, ◌≤◌, ◌<◌}
 use native.Mathlib.Omega.{arith}
 use lib.ListN.{length, get_or, get_elem?, set}
 use Rattle.framed.specs.declared.Value.{Value}
-use Rattle.framed.specs.Common.{if◌then◌else◌}
+use Rattle.framed.specs.Common.{when◌then◌else◌}
 use Rattle.framed.specs.Tree.{Base, Expression, Instruction, Code, ◌then◌}
 use Rattle.framed.specs.Paths.{Path, from_self, from_program, names_of}
 use Rattle.framed.specs.Program.{Program}
@@ -199,20 +199,20 @@ module _ {S : Type 0} (𝓞 : Store S) (p : Program) (𝓛 : Laws 𝓞 p) (fits 
         j = jump_result b.self b.program H.heap.frames c d
 
         choose : (t u : Bool) → t ≡ u →
-            Performs H 0 0 s (if t then 0 else end_of j) [] (if t then goes_on 𝓞 b rest (following p b.next) b.self b.program b.store else commit_jump 𝓞 p b j)
-            (if u then becomes rest (following p b.next) s.self s.program s.heap [] else jump_to p s.self s.program s.heap c d)
-        choose t u e = subst (λ (u : Bool). Performs H 0 0 s (if t then 0 else end_of j) [] (if t then goes_on 𝓞 b rest (following p b.next) b.self b.program b.store else commit_jump 𝓞 p b j)
-            (if u then becomes rest (following p b.next) s.self s.program s.heap [] else jump_to p s.self s.program s.heap c d)) e (same t)
+            Performs H 0 0 s (when t then 0 else end_of j) [] (when t then goes_on 𝓞 b rest (following p b.next) b.self b.program b.store else commit_jump 𝓞 p b j)
+            (when u then becomes rest (following p b.next) s.self s.program s.heap [] else jump_to p s.self s.program s.heap c d)
+        choose t u e = subst (λ (u : Bool). Performs H 0 0 s (when t then 0 else end_of j) [] (when t then goes_on 𝓞 b rest (following p b.next) b.self b.program b.store else commit_jump 𝓞 p b j)
+            (when u then becomes rest (following p b.next) s.self s.program s.heap [] else jump_to p s.self s.program s.heap c d)) e (same t)
           where
             same : (t : Bool) →
-                Performs H 0 0 s (if t then 0 else end_of j) [] (if t then goes_on 𝓞 b rest (following p b.next) b.self b.program b.store else commit_jump 𝓞 p b j)
-                (if t then becomes rest (following p b.next) s.self s.program s.heap [] else jump_to p s.self s.program s.heap c d)
+                Performs H 0 0 s (when t then 0 else end_of j) [] (when t then goes_on 𝓞 b rest (following p b.next) b.self b.program b.store else commit_jump 𝓞 p b j)
+                (when t then becomes rest (following p b.next) s.self s.program s.heap [] else jump_to p s.self s.program s.heap c d)
             same true = inr (record { passes = refl; effect = _; result_is = refl; same_line = refl; related = moved rest rest_fits (following p b.next) (fits.nexts b.next) A.self ok.self []; takes = nothing_taken })
             same false = jump_to_out c d f g
 
         step : {x y : Result Value} → BaseRel A.relation x y →
-            Performs H 0 0 s (ifeq_end x (end_of j)) [] (if truth (value_given x) then goes_on 𝓞 b rest (following p b.next) b.self b.program b.store else commit_jump 𝓞 p b j)
-            (M.◌>>=◌ y (λ v. if truth v then becomes rest (following p b.next) s.self s.program s.heap [] else jump_to p s.self s.program s.heap c d))
+            Performs H 0 0 s (ifeq_end x (end_of j)) [] (when truth (value_given x) then goes_on 𝓞 b rest (following p b.next) b.self b.program b.store else commit_jump 𝓞 p b j)
+            (M.◌>>=◌ y (λ v. when truth v then becomes rest (following p b.next) s.self s.program s.heap [] else jump_to p s.self s.program s.heap c d))
         step both_end = inl (30, refl, refl)
         step (both_give {v = v} {w = w} r) = choose (truth v) (truth w) (truth_rel r)
 
@@ -375,8 +375,8 @@ module _ {S : Type 0} (𝓞 : Store S) (p : Program) (𝓛 : Laws 𝓞 p) (fits 
             l = check_side.frame_link m n q
 
             step : (t u : Bool) → has_place l.left x ≡ t → t ≡ u →
-                Performs H (frame_literals e) (join_signs e) s (if t then 0 else 35) [] (goes_on 𝓞 b rest (following p b.next) b.self b.program (assign r.store m x r.value))
-                (M.◌>>=◌ (M.◌>>=◌ (if u then gives (with_slots l.right (set_slot l.right.slots x D.value)) else ends 35) (λ g. gives (set D.heap.frames n g)))
+                Performs H (frame_literals e) (join_signs e) s (when t then 0 else 35) [] (goes_on 𝓞 b rest (following p b.next) b.self b.program (assign r.store m x r.value))
+                (M.◌>>=◌ (M.◌>>=◌ (when u then gives (with_slots l.right (set_slot l.right.slots x D.value)) else ends 35) (λ g. gives (set D.heap.frames n g)))
                 (λ fs. becomes rest (following p b.next) s.self s.program (with_frames fs D.heap) []))
             step true true i z = inr (record { passes = refl; effect = _; result_is = refl; same_line = refl; related = slot_written m n x q small l i; takes = slot_taken m n x q small l i })
             step false false i z = inl (34, refl, refl)

@@ -11,7 +11,7 @@ use lib.ListN.{length, length-append, get_elem?}
 use lib.Dec.{leb, ltb}
 use borrow.Author.Tests.{leb-true, le-leb}
 use Rattle.framed.specs.declared.Value.{Value}
-use Rattle.framed.specs.Common.{if◌then◌else◌}
+use Rattle.framed.specs.Common.{when◌then◌else◌}
 use Rattle.framed.specs.Tokens.{Operator, in_range}
 use Rattle.framed.specs.Tree.{Base, Expression, Slots, Instruction, Code, ◌then◌}
 use Rattle.framed.specs.Paths.{Path, from_self, from_program}
@@ -45,7 +45,7 @@ unfolding defined
 within_defined none = (omega arith, omega arith)
 within_defined (some a) = tt
 
-within_if : {A : Type 0} (t : Bool) (a b : Result A) → Within a → Within b → Within (if t then a else b)
+within_if : {A : Type 0} (t : Bool) (a b : Result A) → Within a → Within b → Within (when t then a else b)
 within_if true a b v w = v
 within_if false a b v w = w
 

@@ -2,7 +2,7 @@
 use Rattle.std.specs.Prelude.{Bool, true, false, ◌||◌, ◌&&◌, List, ℕ, ℤ, pos, ◌+ℤ◌, ◌-ℤ◌, ◌*ℤ◌, length, leb}
 use Rattle.std.specs.Int.Signed.{lt_z}
 use Rattle.framed.specs.declared.Value.{Value}
-use Rattle.framed.specs.Common.{if◌then◌else◌}
+use Rattle.framed.specs.Common.{when◌then◌else◌}
 use Rattle.framed.specs.Tokens.{Operator, in_range}
 use Rattle.framed.specs.Values.{join_bytes, truth}
 use Rattle.framed.specs.Equality.{Constants, equal_values}
@@ -15,11 +15,11 @@ pub data Product : Type 0 where
 
 -- 33 where the exact result is out of range
 unfoldable pub ranged : ℤ → Result Product
-ranged z = if in_range z then gives (number z) else ends 33
+ranged z = when in_range z then gives (number z) else ends 33
 
 -- 34 above 64 bytes
 unfoldable pub measured : List ℕ → Result Product
-measured bs = if leb (length bs) 64 then gives (text bs) else ends 34
+measured bs = when leb (length bs) 64 then gives (text bs) else ends 34
 
 -- 1 or 0
 unfoldable pub flag : Bool → Product

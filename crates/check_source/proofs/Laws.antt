@@ -8,7 +8,7 @@ use native.Mathlib.Omega.{arith}
 use lib.Dec.{leb, ltb}
 use lib.ListN.{length}
 use borrow.Author.Tests.{ltb-false}
-use Rattle.framed.specs.Common.{if◌then◌else◌, between, any, count}
+use Rattle.framed.specs.Common.{when◌then◌else◌, between, any, count}
 use Rattle.framed.specs.Bytes.{class}
 use Rattle.framed.specs.Tokens.{Token, tokens, highest_nesting}
 use Rattle.framed.specs.Symbols.{symbols, name_table}
@@ -140,7 +140,7 @@ module _ (s : List ℕ) (F n : ℕ) (e : n ≡ tokens_refusal (tokens class s)) 
   nested none e f = e
   nested (some ts) e f = go (ltb 16 (highest_nesting 0 ts)) (tree_refusal (name_table ts) (parse (symbols ts)) F) e
     where
-      go : (t : Bool) (m : ℕ) → n ≡ (if t then 5 else 0) → n ≡ (if t then 5 else m)
+      go : (t : Bool) (m : ℕ) → n ≡ (when t then 5 else 0) → n ≡ (when t then 5 else m)
       go true m e = e
       go false m e = absurd (f e)
 
@@ -154,7 +154,7 @@ module _ (s : List ℕ) (F n : ℕ) (e : n ≡ tokens_refusal (tokens class s)) 
     late r none g f k = absurd (omega arith)
     late r (some ts) g f k = go (ltb 16 (highest_nesting 0 ts)) f (k ts g)
       where
-        go : (u : Bool) → n ≡ (if u then 5 else 0) → r ≡ tree_refusal (name_table ts) (parse (symbols ts)) F → r ≡ (if u then 5 else tree_refusal (name_table ts) (parse (symbols ts)) F)
+        go : (u : Bool) → n ≡ (when u then 5 else 0) → r ≡ tree_refusal (name_table ts) (parse (symbols ts)) F → r ≡ (when u then 5 else tree_refusal (name_table ts) (parse (symbols ts)) F)
         go true f k = absurd (omega arith)
         go false f k = k
 
@@ -203,7 +203,7 @@ limits_small : (n F T : ℕ) → limits_refusal n F T ≤ 12
 unfolding limits_refusal
 limits_small n F T = go (between 3 256 F && leb T 256) (ltb 16384 n)
   where
-    go : (t u : Bool) → (if t then (if u then 3 else 0) else 2) ≤ 12
+    go : (t u : Bool) → (when t then (when u then 3 else 0) else 2) ≤ 12
     go true true = omega arith
     go true false = omega arith
     go false u = omega arith
@@ -213,7 +213,7 @@ unfolding source_refusal
 source_small none F = omega arith
 source_small (some ts) F = go (ltb 16 (highest_nesting 0 ts)) (tree_small (name_table ts) (parse (symbols ts)) F)
   where
-    go : (t : Bool) → tree_refusal (name_table ts) (parse (symbols ts)) F ≤ 12 → (if t then 5 else tree_refusal (name_table ts) (parse (symbols ts)) F) ≤ 12
+    go : (t : Bool) → tree_refusal (name_table ts) (parse (symbols ts)) F ≤ 12 → (when t then 5 else tree_refusal (name_table ts) (parse (symbols ts)) F) ≤ 12
     go true l = omega arith
     go false l = l
 
@@ -231,7 +231,7 @@ module _ (m : Lengths) (s : List ℕ) (F T : ℕ) where
     unfolding lengths_refusal
     lengths_wrong n = go (right_lengths m) refl ea
       where
-        go : (t : Bool) → right_lengths m ≡ t → a ≡ (if t then 0 else 1) → (right_lengths m ≡ false) × (a ≡ 1)
+        go : (t : Bool) → right_lengths m ≡ t → a ≡ (when t then 0 else 1) → (right_lengths m ≡ false) × (a ≡ 1)
         go true x y = absurd (n y)
         go false x y = (x, y)
 
@@ -239,7 +239,7 @@ module _ (m : Lengths) (s : List ℕ) (F T : ℕ) where
     unfolding lengths_refusal
     lengths_right z = go (right_lengths m) refl ea
       where
-        go : (t : Bool) → right_lengths m ≡ t → a ≡ (if t then 0 else 1) → right_lengths m ≡ true
+        go : (t : Bool) → right_lengths m ≡ t → a ≡ (when t then 0 else 1) → right_lengths m ≡ true
         go true x y = x
         go false x y = absurd (omega arith)
 
@@ -250,7 +250,7 @@ module _ (m : Lengths) (s : List ℕ) (F T : ℕ) where
         h.is (omega (arith, x.1)) ∙ x.1 ∙ sym (refused 0 (lowest_here 1 _ _ (ap not x.0)))
 
     module _ (z : a ≡ 0) (b : ℕ) (eb : b ≡ limits_refusal (length s) F T) where
-      limits_are : (t u : Bool) → (between 3 256 F && leb T 256) ≡ t → ltb 16384 (length s) ≡ u → arguments_refusal m s F T ≡ (if t then (if u then 3 else 0) else 2)
+      limits_are : (t u : Bool) → (between 3 256 F && leb T 256) ≡ t → ltb 16384 (length s) ≡ u → arguments_refusal m s F T ≡ (when t then (when u then 3 else 0) else 2)
       unfolding arguments_refusal
       limits_are true true x y = lowest_later 1 _ _ (ap not (lengths_right z)) ∙ lowest_later 2 _ _ (ap not x) ∙ lowest_here 3 _ _ y
       limits_are true false x y = lowest_later 1 _ _ (ap not (lengths_right z)) ∙ lowest_later 2 _ _ (ap not x) ∙ lowest_later 3 _ _ y ∙ lowest_none 4
@@ -274,7 +274,7 @@ module _ (m : Lengths) (s : List ℕ) (F T : ℕ) where
       unfolding limits_refusal
       check_short y = go (between 3 256 F && leb T 256) (ltb 16384 (length s)) refl eb
         where
-          go : (t u : Bool) → ltb 16384 (length s) ≡ u → b ≡ (if t then (if u then 3 else 0) else 2) → Short s
+          go : (t u : Bool) → ltb 16384 (length s) ≡ u → b ≡ (when t then (when u then 3 else 0) else 2) → Short s
           go true true x e = absurd (omega arith)
           go true false x e = record { short = ltb-false 16384 (length s) x }
           go false u x e = absurd (omega arith)
@@ -290,7 +290,7 @@ module _ (c s b e o : List ℕ) (i j : ℕ) (n : ℕ) (r : LoadAnswer) (h : Numb
   unfolding lengths_refusal
   kept_lengths m q f = kept_refused (rw q (go (right_lengths m))) f
     where
-      go : (t : Bool) → (if t then 0 else 1) ≤ 12
+      go : (t : Bool) → (when t then 0 else 1) ≤ 12
       go true = omega arith
       go false = omega arith
 

@@ -11,7 +11,7 @@ use lib.ListN.{length}
 use borrow.Author.Tests.{eq-eqb, ne_eqb, ltb-true, ltb-false, le-leb, lt-leb}
 use mir.Syntax.{w32}
 use mir.Val.{of_z}
-use Rattle.framed.specs.Common.{if◌then◌else◌}
+use Rattle.framed.specs.Common.{when◌then◌else◌}
 use Rattle.framed.specs.Bytes.{class}
 use Rattle.framed.specs.Tokens.{Token, Fixed, Operator, Tokens⊢, next, read, skip}
 use Rattle.framed.specs.Symbols.{Symbol, numbered}
@@ -118,7 +118,7 @@ signed_word w l = go (ltb w 2147483648) refl
     up : (w : ℕ) → w < 4294967296 → 2147483648 ≤ w → 4294967296 - suc (4294967295 - w) ≡ w
     up w l h = omega arith
 
-    go : (t : Bool) → ltb w 2147483648 ≡ t → of_z w32 (if t then pos w else negsuc (4294967295 - w)) ≡ w
+    go : (t : Bool) → ltb w 2147483648 ≡ t → of_z w32 (when t then pos w else negsuc (4294967295 - w)) ≡ w
     go true e = refl
     go false e = up w l (ltb-false w 2147483648 e)
 

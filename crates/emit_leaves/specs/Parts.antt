@@ -1,6 +1,6 @@
 -- docs/LAYOUT.md, program words, and document 01, "Tokens and grammar": the parts of a source whose emission begins or ends a part of the tree. Assumes nothing.
 use Rattle.std.specs.Prelude.{◌≡◌, Bool, ◌&&◌, List, ◌∷◌, ℕ, ◌-◌, ◌<◌, ◌≤◌, ℤ, eqb, leb, length}
-use Rattle.framed.specs.Common.{if◌then◌else◌}
+use Rattle.framed.specs.Common.{when◌then◌else◌}
 use Rattle.framed.specs.Bytes.{class}
 use Rattle.framed.specs.Tokens.{Token, Fixed, Operator, Tokens⊢}
 use Rattle.framed.specs.Symbols.{Symbol, numbered}
@@ -26,19 +26,19 @@ use Rattle.emit_leaves.specs.declared.Stand.{Stand}
 
 -- the place of the first instruction of a code, where the next one is i: none where `}` follows
 unfoldable pub place_by : ℕ → ℕ → ℕ
-place_by k i = if eqb k 15 then 0 else one_more i
+place_by k i = when eqb k 15 then 0 else one_more i
 
 -- the link from instruction i to the next one, z: none where `}` follows
 unfoldable pub line_link_by : ℕ → ℕ → ℕ → ℕ
-line_link_by k i z = if eqb k 15 then 0 else z - i
+line_link_by k i z = when eqb k 15 then 0 else z - i
 
 -- the link from y to the next slot, z: one where a name follows
 unfoldable pub slot_link_by : ℕ → ℕ → ℕ → ℕ
-slot_link_by k y z = if eqb k 25 then z - y else 0
+slot_link_by k y z = when eqb k 25 then z - y else 0
 
 -- the entry of an assignment to a path whose first token has kind k: `self` or `^`
 unfoldable pub assign_by : ℕ → ℕ → ℕ → ℕ → InstructionEntry
-assign_by k j n e = if eqb k 1 then InstructionEntry.AssignSelf j n e else InstructionEntry.AssignProgram j n e
+assign_by k j n e = when eqb k 1 then InstructionEntry.AssignSelf j n e else InstructionEntry.AssignProgram j n e
 
 -- ---- One symbol
 

@@ -4,7 +4,7 @@ use mathlib.Core.Bool.{Bool, true, false}
 use mathlib.Core.List.{List, [], ◌∷◌, ◌++◌}
 use Prim.Native.Nat.{ℕ, suc, ◌+◌, ◌-◌, ◌<◌, ◌≤◌}
 use native.Mathlib.Omega.{arith}
-use Rattle.framed.specs.Common.{if◌then◌else◌}
+use Rattle.framed.specs.Common.{when◌then◌else◌}
 use Rattle.framed.specs.Tree.{Written}
 use Rattle.framed.specs.Paths.{names_of, resolve_path, names_up}
 use Rattle.framed.specs.Paths as Paths
@@ -253,7 +253,7 @@ holder_is : (place : Place) → Paths.holder (place_of place) ≡ take place.dep
 unfolding Paths.holder place_of
 holder_is place = go place.in_code
   where
-    go : (t : Bool) → Paths.holder (if t then Paths.in_code (take place.depth place.names) else Paths.outside_code (take place.depth place.names)) ≡ take place.depth place.names
+    go : (t : Bool) → Paths.holder (when t then Paths.in_code (take place.depth place.names) else Paths.outside_code (take place.depth place.names)) ≡ take place.depth place.names
     go true = refl
     go false = refl
 

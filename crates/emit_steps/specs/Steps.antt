@@ -1,7 +1,7 @@
 -- docs/LAYOUT.md, program words: the numbers that emission takes while it reads the source, and document 01, "Limits and paths": the place of a part, as the
 -- functions that emit keep them. Assumes nothing.
 use Rattle.std.specs.Prelude.{◌≡◌, true, false, List, [], ◌∷◌, ℕ, ◌+◌, ◌<◌, ◌≤◌, ltb, take, set}
-use Rattle.framed.specs.Common.{if◌then◌else◌}
+use Rattle.framed.specs.Common.{when◌then◌else◌}
 use Rattle.framed.specs.Bytes.{class}
 use Rattle.framed.specs.Tokens.{Token, Tokens⊢}
 use Rattle.framed.specs.Paths as Paths
@@ -13,7 +13,7 @@ use Rattle.emit_steps.specs.declared.Place.{Place}
 
 -- one more, as far as a word goes
 unfoldable pub one_more : ℕ → ℕ
-one_more n = if ltb n 4294967295 then n + 1 else n
+one_more n = when ltb n 4294967295 then n + 1 else n
 
 -- the numbers without the position and without strings, which the tree's numbers do not count
 abbrev pub numbers : Next → Numbers
@@ -40,12 +40,12 @@ take_code n at =
 
 -- the place that is meant
 unfoldable pub place_of : Place → Paths.Place
-place_of q = if q.in_code then Paths.in_code (take q.depth q.names) else Paths.outside_code (take q.depth q.names)
+place_of q = when q.in_code then Paths.in_code (take q.depth q.names) else Paths.outside_code (take q.depth q.names)
 
 unfoldable pub inner_slot : Place → ℕ → Place
 inner_slot q n =
-    if q.in_code then q
-    else if ltb q.depth 16 then record { in_code = false; depth = q.depth + 1; names = set q.names q.depth n }
+    when q.in_code then q
+    else when ltb q.depth 16 then record { in_code = false; depth = q.depth + 1; names = set q.names q.depth n }
     else q
 
 abbrev pub inner_code : Place → Place

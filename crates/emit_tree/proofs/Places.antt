@@ -9,7 +9,7 @@ use lib.Dec.{eqb, leb, ltb}
 use lib.ListN.{take, set, length-set}
 use lib.Seq.{take-suc-set}
 use borrow.Author.Tests.{lt-ltb}
-use Rattle.framed.specs.Common.{if◌then◌else◌}
+use Rattle.framed.specs.Common.{when◌then◌else◌}
 use Rattle.framed.specs.Symbols.{Symbol}
 use Rattle.framed.specs.Tree.{Written, Base, Expression, Slots}
 use Rattle.framed.specs.Grammar.{Path⊢, Base⊢}
@@ -29,7 +29,7 @@ unfolding place_of within_code
 code_place place = go place.in_code
   where
     go : (t : Bool) → Paths.in_code (take place.depth place.names) ≡
-        within_code (if t then Paths.in_code (take place.depth place.names) else Paths.outside_code (take place.depth place.names))
+        within_code (when t then Paths.in_code (take place.depth place.names) else Paths.outside_code (take place.depth place.names))
     go true = refl
     go false = refl
 
@@ -92,7 +92,7 @@ unfolding inner_slot
 slot_code place m = go place.in_code (ltb place.depth 16) refl
   where
     go : (t u : Bool) → place.in_code ≡ t →
-        (if t then place else if u then record { in_code = false; depth = place.depth + 1; names = set place.names place.depth m } else place).in_code ≡ place.in_code
+        (when t then place else when u then record { in_code = false; depth = place.depth + 1; names = set place.names place.depth m } else place).in_code ≡ place.in_code
     go true u e = refl
     go false true e = sym e
     go false false e = refl

@@ -6,7 +6,7 @@ use mathlib.Core.Option.{Option, none, some}
 use Prim.Native.Nat.{ℕ, zero, suc, ◌≤◌, ◌<◌}
 use native.Mathlib.Omega.{arith}
 use lib.Dec.{eqb, leb, ltb, nleb→lt, nltb→le}
-use Rattle.framed.specs.Common.{if◌then◌else◌, bytes, count}
+use Rattle.framed.specs.Common.{when◌then◌else◌, bytes, count}
 use Rattle.framed.specs.Bytes.{class}
 use Rattle.framed.specs.Tokens.{Token, tokens, highest_nesting}
 use Rattle.framed.specs.Symbols.{number_in, name_table, symbols}
@@ -72,11 +72,11 @@ module _ (source : List ℕ) (F : ℕ) (ts : List Token) (list_is : tokens class
   tree_fits none q e = absurd (suc≢zero e)
   tree_fits (some ss) q e = meaning_fits ss q e
 
-pub nesting_accepts : (t : Bool) (n : ℕ) → (if t then 5 else n) ≡ 0 → n ≡ 0
+pub nesting_accepts : (t : Bool) (n : ℕ) → (when t then 5 else n) ≡ 0 → n ≡ 0
 nesting_accepts true n e = absurd (suc≢zero e)
 nesting_accepts false n e = e
 
-nests : (t : Bool) (n : ℕ) → (if t then 5 else n) ≡ 0 → t ≡ false
+nests : (t : Bool) (n : ℕ) → (when t then 5 else n) ≡ 0 → t ≡ false
 nests true n e = absurd (suc≢zero e)
 nests false n e = refl
 

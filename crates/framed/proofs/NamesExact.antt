@@ -6,7 +6,7 @@ use mathlib.Core.List.{List, [], ◌∷◌, ◌++◌}
 use mathlib.Core.Option.{some}
 use Prim.Native.Nat.{ℕ, zero, suc}
 use lib.ListN.{get_elem?}
-use Rattle.framed.specs.Common.{if◌then◌else◌, any, same, ◌∈◌, here, later, Twice}
+use Rattle.framed.specs.Common.{when◌then◌else◌, any, same, ◌∈◌, here, later, Twice}
 use Rattle.framed.specs.Tokens.{Token}
 use Rattle.framed.specs.Symbols.{Symbol, number_in, names_after, name_table, numbered, symbols}
 use Rattle.framed.specs.Theorems.{NamesExact}
@@ -51,14 +51,14 @@ same_in w table e = let r = any_finds (same w) table e in subst (λ (v : List �
 
 -- the table with a name that comes next
 abbrev grown : List (List ℕ) → List ℕ → List (List ℕ)
-grown table v = if any (same v) table then table else table ++ (v ∷ [])
+grown table v = when any (same v) table then table else table ++ (v ∷ [])
 
 kept : (table : List (List ℕ)) (ts : List Token) {w : List ℕ} → w ∈ table → w ∈ names_after table ts
 unfolding names_after
 kept table [] m = m
 kept table (Token.name v ∷ ts) {w} m = kept (grown table v) ts (go (any (same v) table))
   where
-    go : (t : Bool) → w ∈ (if t then table else table ++ (v ∷ []))
+    go : (t : Bool) → w ∈ (when t then table else table ++ (v ∷ []))
     go true = m
     go false = in_front _ m
 kept table (Token.integer z ∷ ts) m = kept table ts m
@@ -72,7 +72,7 @@ named table [] m = none m
 named table (Token.name v ∷ ts) (later m) = named (grown table v) ts m
 named table (Token.name v ∷ ts) here = kept (grown table v) ts (go (any (same v) table) refl)
   where
-    go : (t : Bool) → any (same v) table ≡ t → v ∈ (if t then table else table ++ (v ∷ []))
+    go : (t : Bool) → any (same v) table ≡ t → v ∈ (when t then table else table ++ (v ∷ []))
     go true p = same_in v table p
     go false p = behind table here
 named table (Token.integer z ∷ ts) (later m) = named table ts m
@@ -89,7 +89,7 @@ unfolding names_after
 taken table [] m = inl m
 taken table (Token.name v ∷ ts) {w} m = ⊎_elim (λ n. go (any (same v) table) n) (λ n. inr (later n)) (taken (grown table v) ts m)
   where
-    go : (t : Bool) → w ∈ (if t then table else table ++ (v ∷ [])) → (w ∈ table) ⊎ (Token.name w ∈ (Token.name v ∷ ts))
+    go : (t : Bool) → w ∈ (when t then table else table ++ (v ∷ [])) → (w ∈ table) ⊎ (Token.name w ∈ (Token.name v ∷ ts))
     go true n = inl n
     go false n = cases table (λ k. inl k) (λ k. inr (the_name k)) n
 taken table (Token.integer z ∷ ts) m = ⊎_elim (λ n. inl n) (λ n. inr (later n)) (taken table ts m)
@@ -113,7 +113,7 @@ unfolding names_after
 once table [] t = t
 once table (Token.name w ∷ ts) t = once (grown table w) ts (go (any (same w) table) refl)
   where
-    go : (b : Bool) → any (same w) table ≡ b → ¬ Twice (if b then table else table ++ (w ∷ []))
+    go : (b : Bool) → any (same w) table ≡ b → ¬ Twice (when b then table else table ++ (w ∷ []))
     go true p = t
     go false p = λ d. ⊎_elim t (λ m. true≢false (sym (any_found (same w) m (same_self w)) ∙ p)) (twice_last table d)
 once table (Token.integer z ∷ ts) t = once table ts t

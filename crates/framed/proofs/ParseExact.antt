@@ -9,7 +9,7 @@ use Prim.Native.Nat.{ℕ, zero, suc, ◌+◌, ◌≤◌, ◌<◌}
 use native.Mathlib.Omega.{arith}
 use lib.ListN.{length, get_or, replicate, length-replicate}
 use lib.Dec.{eqb, eqb→eq}
-use Rattle.framed.specs.Common.{if◌then◌else◌}
+use Rattle.framed.specs.Common.{when◌then◌else◌}
 use Rattle.framed.specs.Tokens.{Fixed, Operator}
 use Rattle.framed.specs.Symbols.{Symbol, fixed}
 use Rattle.framed.specs.Tree.{Written, Base, Expression, Slots, Instruction, Code, ◌then◌}
@@ -90,7 +90,7 @@ same_number f g l e =
     sym (by_number f l) ∙ ap (λ (n : ℕ). get_or plain n Fixed.frame) e ∙ by_number g m
 
 pub this_case : (f g h : Fixed) (ts us : List Symbol) (t : Bool) → fixed_number f < 16 → eqb (fixed_number f) (fixed_number g) ≡ t →
-    (if t then parsed f ts else fails) ≡ parsed h us → ◌≡◌ {A = List Symbol} (fixed g ∷ ts) (fixed f ∷ us)
+    (when t then parsed f ts else fails) ≡ parsed h us → ◌≡◌ {A = List Symbol} (fixed g ∷ ts) (fixed f ∷ us)
 this_case f g h ts us true l q e =
     let d : f ≡ g = same_number f g l (eqb→eq _ _ (rw q tt)) in
     let r : ts ≡ us = rest_inj e in

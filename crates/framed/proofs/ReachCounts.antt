@@ -12,7 +12,7 @@ use lib.ListN.{length, get_or, length-append, length-map}
 use lib.Dec.{T, eqb, eqb→eq, eqb_refl}
 use Rattle.framed.specs.declared.Value.{Value}
 use Rattle.framed.specs.declared.Text.{Text}
-use Rattle.framed.specs.Common.{if◌then◌else◌, any, member, total, has_twice, distinct}
+use Rattle.framed.specs.Common.{when◌then◌else◌, any, member, total, has_twice, distinct}
 use Rattle.framed.specs.Values.{Frame, new_frame}
 use Rattle.framed.specs.Reach.{slot_value, values_in, Reachable, unseen_frame, visit, slot_count, roots, reached_frames, made_in, values_of_all, texts_from, reached_texts}
 use Rattle.framed.specs.Calls.{frame_total, text_total}
@@ -33,7 +33,7 @@ unseen_some seen (Value.Text t) e = absurd (none≢some e)
 unseen_some seen (Value.Code k) e = absurd (none≢some e)
 unseen_some seen (Value.Frame m) {n} e = go (member m seen) refl e
   where
-    go : (t : Bool) → member m seen ≡ t → (if t then none else some m) ≡ some n → (Value.Frame m ≡ Value.Frame n) × (member n seen ≡ false)
+    go : (t : Bool) → member m seen ≡ t → (when t then none else some m) ≡ some n → (Value.Frame m ≡ Value.Frame n) × (member n seen ≡ false)
     go true p q = absurd (none≢some q)
     go false p q = (ap Value.Frame (some_inj q), rw (← some_inj q) p)
 
@@ -41,7 +41,7 @@ unseen_none : (seen : List ℕ) (v : Value) (n : ℕ) → unseen_frame seen v �
 unfolding unseen_frame
 unseen_none seen v n e p = go (member n seen) refl (ap (unseen_frame seen) (sym p) ∙ e)
   where
-    go : (t : Bool) → member n seen ≡ t → (if member n seen then none else some n) ≡ none → n ∈ seen
+    go : (t : Bool) → member n seen ≡ t → (when member n seen then none else some n) ≡ none → n ∈ seen
     go true p q = p
     go false p q = absurd (some≢none (rw p at q))
 
@@ -148,7 +148,7 @@ module _ (frames : List Frame) (Σ Π : Value) where
 -- the slots of the frames not in `seen`, where the first frame has the number k
 weight : ℕ → List Frame → List ℕ → ℕ
 weight k [] seen = 0
-weight k (f ∷ fs) seen = (if member k seen then 0 else slot_count f) + weight (suc k) fs seen
+weight k (f ∷ fs) seen = (when member k seen then 0 else slot_count f) + weight (suc k) fs seen
 
 other_number : (k n : ℕ) (seen : List ℕ) → k ≢ n → member k (n ∷ seen) ≡ member k seen
 unfolding member any
@@ -159,8 +159,8 @@ other_number k n seen d = go (eqb k n) refl
     go false p = refl
 
 slots_left : (k n : ℕ) (f : Frame) (seen : List ℕ) → k ≢ n →
-    (if member k (n ∷ seen) then 0 else slot_count f) ≡ (if member k seen then 0 else slot_count f)
-slots_left k n f seen d = ap (λ (t : Bool). if t then 0 else slot_count f) (other_number k n seen d)
+    (when member k (n ∷ seen) then 0 else slot_count f) ≡ (when member k seen then 0 else slot_count f)
+slots_left k n f seen d = ap (λ (t : Bool). when t then 0 else slot_count f) (other_number k n seen d)
 
 -- numbers below k do not matter
 lower_number : (k n : ℕ) (fs : List Frame) (seen : List ℕ) → n < k → weight k fs (n ∷ seen) ≡ weight k fs seen
@@ -176,12 +176,12 @@ unfolding weight slot_count
 weight_seen k j n [] seen e h = refl
 weight_seen k zero n (f ∷ fs) seen e h =
     let d : n ≡ k = omega arith in
-    let a : (if member k (n ∷ seen) then 0 else slot_count f) ≡ 0 = ap (λ (t : Bool). if t then 0 else slot_count f) (here k n seen (sym d)) in
-    let b : (if member k seen then 0 else slot_count f) ≡ slot_count f = ap (λ (t : Bool). if t then 0 else slot_count f) (subst (λ (i : ℕ). member i seen ≡ false) d h) in
+    let a : (when member k (n ∷ seen) then 0 else slot_count f) ≡ 0 = ap (λ (t : Bool). when t then 0 else slot_count f) (here k n seen (sym d)) in
+    let b : (when member k seen then 0 else slot_count f) ≡ slot_count f = ap (λ (t : Bool). when t then 0 else slot_count f) (subst (λ (i : ℕ). member i seen ≡ false) d h) in
     let c : weight (suc k) fs (n ∷ seen) ≡ weight (suc k) fs seen = lower_number (suc k) n fs seen (omega arith) in
     omega arith
 weight_seen k (suc j) n (f ∷ fs) seen e h =
-    let a : (if member k (n ∷ seen) then 0 else slot_count f) ≡ (if member k seen then 0 else slot_count f) = slots_left k n f seen (omega arith) in
+    let a : (when member k (n ∷ seen) then 0 else slot_count f) ≡ (when member k seen then 0 else slot_count f) = slots_left k n f seen (omega arith) in
     let b : slot_count (get_or fs j (new_frame 0 [])) + weight (suc k) fs (n ∷ seen) ≡ weight (suc k) fs seen = weight_seen (suc k) j n fs seen (omega arith) h in
     omega arith
 

@@ -9,7 +9,7 @@ use native.Mathlib.Omega.{arith}
 use lib.ListN.{length}
 use lib.Dec.{ltb}
 use borrow.Author.Tests.{not-true, ltb-true, leb-true, lt-ltb, le-leb}
-use Rattle.framed.specs.Common.{if◌then◌else◌, any, count, Twice}
+use Rattle.framed.specs.Common.{when◌then◌else◌, any, count, Twice}
 use Rattle.framed.specs.Bytes.{class}
 use Rattle.framed.specs.Tokens.{Token, tokens, Tokens⊢, highest_nesting}
 use Rattle.framed.specs.Symbols.{symbols, name_table}
@@ -80,7 +80,7 @@ none_or_some : {A : Type 0} (o : Option A) → ((a : A) → ¬ (o ≡ some a)) �
 none_or_some none f = refl
 none_or_some (some a) f = absurd (f a refl)
 
-found_nested : (t : Bool) (n k : ℕ) → 4 < k → Found n k → Found (if t then 5 else n) k
+found_nested : (t : Bool) (n k : ℕ) → 4 < k → Found n k → Found (when t then 5 else n) k
 found_nested true n k l f = (omega arith, omega arith)
 found_nested false n k l f = f
 
@@ -120,7 +120,7 @@ module _ (m : Lengths) (source : List ℕ) (F T : ℕ) where
       (subst (λ (o : Option (List Token)). Found (source_refusal o F) 4) (sym (none_or_some (tokens class source) (λ ts e. f ts ((tokens_agree class source ts).0 e)))) (omega arith))
   found (h5 {ts} d l) =
       by_tokens d 5 (omega arith)
-      (subst (λ (t : Bool). Found (if t then 5 else tree_refusal (name_table ts) (parse (symbols ts)) F) 5) (sym (lt-ltb 16 (highest_nesting 0 ts) l)) (omega arith))
+      (subst (λ (t : Bool). Found (when t then 5 else tree_refusal (name_table ts) (parse (symbols ts)) F) 5) (sym (lt-ltb 16 (highest_nesting 0 ts) l)) (omega arith))
   found (h6 {ts} d f) =
       by_tokens d 6 (omega arith)
       (found_nested (ltb 16 (highest_nesting 0 ts)) _ 6 (omega arith)
@@ -205,7 +205,7 @@ module _ (m : Lengths) (source : List ℕ) (F T : ℕ) where
   tree_holds ts c (some ss) p e = meaning_holds (record { tokens = c; tree = (parse_agrees (symbols ts) ss).0 p }) e
 
   nesting_holds : {n : ℕ} (ts : List Token) → Tokens⊢ class source ts → (t : Bool) → ltb 16 (highest_nesting 0 ts) ≡ t →
-      (if t then 5 else tree_refusal (name_table ts) (parse (symbols ts)) F) ≡ suc n → Holds m source F T (suc n)
+      (when t then 5 else tree_refusal (name_table ts) (parse (symbols ts)) F) ≡ suc n → Holds m source F T (suc n)
   nesting_holds ts c true p e = at e (h5 c (ltb-true 16 (highest_nesting 0 ts) p))
   nesting_holds ts c false p e = tree_holds ts c (parse (symbols ts)) refl e
 

@@ -15,7 +15,7 @@ use lib.Dec.{T, leb, ltb, leb→le, le→leb, nleb→lt, ltb→lt, lt→ltb, nlt
 use lib.Arith.{lt→nleb, le→nltb}
 use Rattle.framed.specs.declared.Value.{Value}
 use Rattle.framed.specs.declared.Text.{Text}
-use Rattle.framed.specs.Common.{if◌then◌else◌}
+use Rattle.framed.specs.Common.{when◌then◌else◌}
 use Rattle.framed.specs.Tokens.{Operator, in_range}
 use Rattle.framed.specs.Tree.{Base, Expression, Slots, Instruction, Code}
 use Rattle.framed.specs.Paths.{Path, from_self, from_program}
@@ -120,11 +120,11 @@ no_integer (Value.Code k) e = sym (ends_inj e)
 no_integer (Value.Frame n) e = sym (ends_inj e)
 
 -- a test that chooses between a result and an end
-chosen : {A : Type 0} {b : A} (t : Bool) (a : A) (k : ℕ) → (if t then gives a else ends k) ≡ gives b → (t ≡ true) × (a ≡ b)
+chosen : {A : Type 0} {b : A} (t : Bool) (a : A) (k : ℕ) → (when t then gives a else ends k) ≡ gives b → (t ≡ true) × (a ≡ b)
 chosen true a k e = (refl, gives_inj e)
 chosen false a k e = absurd (ends≢gives e)
 
-pub refused : {A : Type 0} {k : ℕ} (t : Bool) (a : A) (j : ℕ) → (if t then gives a else ends j) ≡ ends k → (t ≡ false) × (j ≡ k)
+pub refused : {A : Type 0} {k : ℕ} (t : Bool) (a : A) (j : ℕ) → (when t then gives a else ends j) ≡ ends k → (t ≡ false) × (j ≡ k)
 refused true a j e = absurd (gives≢ends e)
 refused false a j e = (refl, ends_inj e)
 
@@ -134,10 +134,10 @@ quotient_gives y (pos zero) e = absurd (ends≢gives e)
 quotient_gives y (pos (suc n)) e = (λ p. let z : suc n ≡ 0 = cc in omega arith, gives_inj e)
 quotient_gives y (negsuc n) e = (λ p. let z : ◌≡◌ {A = ℕ} 0 1 = cc in omega arith, gives_inj e)
 
-chosen_true : {A : Type 0} {t : Bool} (a : A) (k : ℕ) → t ≡ true → (if t then gives a else ends k) ≡ gives a
+chosen_true : {A : Type 0} {t : Bool} (a : A) (k : ℕ) → t ≡ true → (when t then gives a else ends k) ≡ gives a
 chosen_true a k p = rw p
 
-chosen_false : {A : Type 0} {t : Bool} (a : A) (k : ℕ) → t ≡ false → (if t then gives a else ends k) ≡ ends k
+chosen_false : {A : Type 0} {t : Bool} (a : A) (k : ℕ) → t ≡ false → (when t then gives a else ends k) ≡ ends k
 chosen_false a k p = rw p
 
 quotient_by : (y z : ℤ) → z ≢ pos 0 → quotient y z ≡ gives (quot_z y z)
@@ -557,7 +557,7 @@ module _ (p : Program) (ν : ℕ) (rest : Code Path) (Σ Π : Value) (h : Heap) 
       rw (← gives_inj t) (i_assign₃ d (put_sound h'.frames v Π n ns r))
 
   ifeq_sound : (a b c : Base Path) (v : Value) (x : Effect) (t : Bool) → truth v ≡ t → B⇒ Σ Π h.frames a v →
-      (if t then becomes rest (following p ν) Σ Π h [] else jump_to p Σ Π h b c) ≡ gives x → Gives (Instruction.ifeq a b c) x
+      (when t then becomes rest (following p ν) Σ Π h [] else jump_to p Σ Π h b c) ≡ gives x → Gives (Instruction.ifeq a b c) x
   ifeq_sound a b c v x true e d q = rw (← gives_inj q) (i_ifeq₂ d (truth_true e))
   ifeq_sound a b c v x false e d q =
       let m = jump_sound b c x q in
@@ -578,7 +578,7 @@ module _ (p : Program) (ν : ℕ) (rest : Code Path) (Σ Π : Value) (h : Heap) 
       bind_gives (base_value Σ Π h.frames a) _ q λ v s t.
       ifeq_sound a b c v x (truth v) refl (base_sound Σ Π h.frames a s) t
 
-  ifeq_zero : (b c : Base Path) → (if truth zero_value then becomes rest (following p ν) Σ Π h [] else jump_to p Σ Π h b c) ≡ jump_to p Σ Π h b c
+  ifeq_zero : (b c : Base Path) → (when truth zero_value then becomes rest (following p ν) Σ Π h [] else jump_to p Σ Π h b c) ≡ jump_to p Σ Π h b c
   unfolding truth
   ifeq_zero b c = refl
 
@@ -606,7 +606,7 @@ module _ (p : Program) (ν : ℕ) (rest : Code Path) (Σ Π : Value) (h : Heap) 
   assign_ends (from_program (n ∷ ns)) v h' q =
       bind_ends (put h'.frames Π n ns v) _ q (λ e. put_ends h'.frames v Π n ns e) λ frames r t. absurd (gives≢ends t)
 
-  ifeq_ends : (b c : Base Path) (t : Bool) {j : ℕ} → (if t then becomes rest (following p ν) Σ Π h [] else jump_to p Σ Π h b c) ≡ ends j → j ≡ 31
+  ifeq_ends : (b c : Base Path) (t : Bool) {j : ℕ} → (when t then becomes rest (following p ν) Σ Π h [] else jump_to p Σ Π h b c) ≡ ends j → j ≡ 31
   ifeq_ends b c true q = absurd (gives≢ends q)
   ifeq_ends b c false q = jump_ends b c q
 

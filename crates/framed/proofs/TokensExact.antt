@@ -10,7 +10,7 @@ use native.Mathlib.Omega.{arith}
 use lib.ListN.{length}
 use lib.IntN.{ℤ}
 use lib.Dec.{leb}
-use Rattle.framed.specs.Common.{if◌then◌else◌, is, after, starts, past_first}
+use Rattle.framed.specs.Common.{when◌then◌else◌, is, after, starts, past_first}
 use Rattle.framed.specs.Bytes.{Classes, space, letter, digit}
 use Rattle.framed.specs.Tokens.{Token, tokens, in_range, Read, end, no_token, token, skip, skip_comment, read_name, read_integer, read_string, two_bytes, read_mark, read, next, prepend, tokens_within, Tokens⊢}
 use Rattle.framed.specs.Theorems.{TokensExact}
@@ -22,7 +22,7 @@ pub data Leaves (n : ℕ) : Read → Type 0 where
   refused : Leaves n no_token
   leaves : {t : Token} {rest : List ℕ} → length rest ≤ n → Leaves n (token t rest)
 
-pub either : (n : ℕ) (t : Bool) (x y : Read) → Leaves n x → Leaves n y → Leaves n (if t then x else y)
+pub either : (n : ℕ) (t : Bool) (x y : Read) → Leaves n x → Leaves n y → Leaves n (when t then x else y)
 either n true x y a b = a
 either n false x y a b = b
 
@@ -51,7 +51,7 @@ read_mark_leaves b bs =
     (e (is "/" b) _ _ s (e (is "<" b) _ _ s (e (is "#" b) _ _ s (e (is ";" b) _ _ s (e (is "," b) _ _ s (e (is "[" b) _ _ s
     (e (is "]" b) _ _ s (e (is "{" b) _ _ s (e (is "}" b) _ _ s refused))))))))))))))))))
   where
-    e : (t : Bool) (x y : Read) → Leaves (length bs) x → Leaves (length bs) y → Leaves (length bs) (if t then x else y)
+    e : (t : Bool) (x y : Read) → Leaves (length bs) x → Leaves (length bs) y → Leaves (length bs) (when t then x else y)
     e = either (length bs)
 
     p : {t : Token} → Leaves (length bs) (token t (past_first bs))

@@ -2,7 +2,7 @@
 -- The code has the classes as a constant table of 256 entries; here they are by rule. What reads tokens takes the classes as a parameter.
 -- Assumes nothing.
 use Rattle.std.specs.Prelude.{Bool, ◌||◌, ◌&&◌, not, List, [], ◌∷◌, ℕ, eqb}
-use Rattle.framed.specs.Common.{if◌then◌else◌, bytes, is, between, member}
+use Rattle.framed.specs.Common.{when◌then◌else◌, bytes, is, between, member}
 
 -- the rule of each class
 abbrev pub space_bytes : List ℕ
@@ -20,10 +20,10 @@ in_digits b = between 48 57 b
 -- 1 space, 2 letter, 3 digit, 4 mark, 0 the rest
 unfoldable pub class : ℕ → ℕ
 class b =
-    if member b space_bytes then 1
-    else if in_letters b then 2
-    else if in_digits b then 3
-    else if member b mark_bytes then 4
+    when member b space_bytes then 1
+    else when in_letters b then 2
+    else when in_digits b then 3
+    else when member b mark_bytes then 4
     else 0
 
 -- a class for each byte, and the tests that reading tokens makes by it

@@ -6,7 +6,7 @@ use Rattle.std.specs.Int.Signed.{lt_z, quot_z}
 use Rattle.std.proofs.Math.ListN.{get_elem?}
 use Rattle.framed.specs.declared.Value.{Value}
 use Rattle.framed.specs.declared.Text.{Text}
-use Rattle.framed.specs.Common.{if◌then◌else◌}
+use Rattle.framed.specs.Common.{when◌then◌else◌}
 use Rattle.framed.specs.Tokens.{Operator, in_range}
 use Rattle.framed.specs.Tree.{Base, Expression, Slots, Instruction, Code, ◌then◌}
 use Rattle.framed.specs.Paths.{Path, from_self, from_program}
@@ -50,7 +50,7 @@ frame_number (Value.Frame n) = gives n
 
 -- the frame with the slot n set or added: 35 where it would be a 17th
 unfoldable pub put_slot : Frame → ℕ → Value → Result Frame
-put_slot f n w = if holds f n || ltb (length f.slots) 16 then gives (with_slots f (set_slot f.slots n w)) else ends 35
+put_slot f n w = when holds f n || ltb (length f.slots) 16 then gives (with_slots f (set_slot f.slots n w)) else ends 35
 
 -- Put along the names n, ns: walk by Fetch to the last name, then set or add that slot
 unfoldable pub put : List Frame → Value → ℕ → List ℕ → Value → Result (List Frame)
@@ -88,7 +88,7 @@ integer_in (Value.Frame n) = ends 31
 
 -- 33 where the exact result is out of range
 unfoldable pub integer_result : ℤ → Heap → Result Evaluated
-integer_result z h = if in_range z then evaluated (Value.Int z) h else ends 33
+integer_result z h = when in_range z then evaluated (Value.Int z) h else ends 33
 
 -- rounded towards zero; 32 where the divisor is 0
 unfoldable pub quotient : ℤ → ℤ → Result ℤ
@@ -99,7 +99,7 @@ quotient y (negsuc n) = gives (quot_z y (negsuc n))
 -- a new made text: 34 above 64 bytes
 unfoldable pub new_text : List ℕ → Heap → Result Evaluated
 new_text bs h =
-    if leb (length bs) 64
+    when leb (length bs) 64
     then evaluated (Value.Text (Text.Made (length h.texts))) (record { frames = h.frames; texts = h.texts ++ (bs ∷ []) })
     else ends 34
 
@@ -211,7 +211,7 @@ perform p n Σ Π h rest (Instruction.jump a b) = jump_to p Σ Π h a b
 -- integer 0 jumps; any other value goes on, and the two other operands are not evaluated
 perform p n Σ Π h rest (Instruction.ifeq a b c) = do
   v ← base_value Σ Π h.frames a
-  if truth v then becomes rest (following p n) Σ Π h [] else jump_to p Σ Π h b c
+  when truth v then becomes rest (following p n) Σ Π h [] else jump_to p Σ Π h b c
 
 -- ---- Reserve (document 01: room)
 

@@ -3,7 +3,7 @@
 -- Assumes nothing.
 use Rattle.std.specs.Prelude.{Bool, true, false, not, ◌||◌, ◌&&◌, List, [], ◌∷◌, ◌++◌, ℕ, zero, suc, length, eqb, leb, ltb}
 use Rattle.std.proofs.Math.Option.{Option, none, some}
-use Rattle.framed.specs.Common.{if◌then◌else◌, bytes, between, any, count, total, has_twice}
+use Rattle.framed.specs.Common.{when◌then◌else◌, bytes, between, any, count, total, has_twice}
 use Rattle.framed.specs.Bytes.{class}
 use Rattle.framed.specs.Tokens.{Token, tokens, highest_nesting}
 use Rattle.framed.specs.Symbols.{name_table, number_in, symbols}
@@ -204,7 +204,7 @@ tree_refusal names (some ss) F = meaning_refusal names ss F
 unfoldable pub source_refusal : Option (List Token) → ℕ → ℕ
 source_refusal none F = 4
 source_refusal (some ts) F =
-    if ltb 16 (highest_nesting 0 ts) then 5 else tree_refusal (name_table ts) (parse (symbols ts)) F
+    when ltb 16 (highest_nesting 0 ts) then 5 else tree_refusal (name_table ts) (parse (symbols ts)) F
 
 -- What load gives: the lowest number that holds over the whole source, or 0
 unfoldable pub refusal : Lengths → List ℕ → ℕ → ℕ → ℕ

@@ -6,7 +6,7 @@ use Rattle.std.proofs.Math.Option.{Option, none, some}
 use Rattle.std.specs.Prelude.{ℕ, zero, suc, ◌+◌, length, get_or}
 use Rattle.framed.specs.declared.Value.{Value}
 use Rattle.framed.specs.declared.Text.{Text}
-use Rattle.framed.specs.Common.{if◌then◌else◌, member, distinct, total}
+use Rattle.framed.specs.Common.{when◌then◌else◌, member, distinct, total}
 use Rattle.framed.specs.Values.{Slot, Frame, new_frame}
 
 -- the values in the slots of a frame number
@@ -27,7 +27,7 @@ unfoldable pub unseen_frame : List ℕ → Value → Option ℕ
 unseen_frame seen (Value.Int z) = none
 unseen_frame seen (Value.Text t) = none
 unseen_frame seen (Value.Code k) = none
-unseen_frame seen (Value.Frame n) = if member n seen then none else some n
+unseen_frame seen (Value.Frame n) = when member n seen then none else some n
 
 -- From the values still to visit and the frames seen, all the frames seen in the end. The number bounds the visits
 unfoldable pub visit : ℕ → List Frame → List Value → List ℕ → List ℕ

@@ -5,7 +5,7 @@
 use Rattle.std.specs.Prelude.{◌≡◌, Bool, true, false, ◌&&◌, List, [], ◌∷◌, ℕ, zero, suc, pred, max, ◌+◌, ◌*◌, ◌-◌, ◌^◌, length, ℤ, pos, neg_ℤ, leb, ltb}
 use Rattle.std.proofs.Math.Option.{Option, none, some}
 use Rattle.std.specs.Int.Signed.{mag}
-use Rattle.framed.specs.Common.{if◌then◌else◌, bytes, is, same, while, after, starts, past_first}
+use Rattle.framed.specs.Common.{when◌then◌else◌, bytes, is, same, while, after, starts, past_first}
 use Rattle.framed.specs.Bytes.{Classes, space, letter, digit, name_byte, string_byte}
 
 -- `+ - * / < # == && ||`
@@ -48,16 +48,16 @@ unfoldable mutual
 -- A name of 1 to 16 bytes, or a reserved word
 unfoldable pub word : List ℕ → Token
 word w =
-    if same w (bytes "frame") then fixed frame
-    else if same w (bytes "code") then code
-    else if same w (bytes "self") then fixed self
-    else if same w (bytes "show") then fixed show
-    else if same w (bytes "jump") then fixed jump
-    else if same w (bytes "ifeq") then fixed ifeq
+    when same w (bytes "frame") then fixed frame
+    else when same w (bytes "code") then code
+    else when same w (bytes "self") then fixed self
+    else when same w (bytes "show") then fixed show
+    else when same w (bytes "jump") then fixed jump
+    else when same w (bytes "ifeq") then fixed ifeq
     else name w
 
 unfoldable pub read_name : List ℕ → List ℕ → Read
-read_name w rest = if leb (length w) 16 then token (word w) rest else no_token
+read_name w rest = when leb (length w) 16 then token (word w) rest else no_token
 
 -- an integer that 32 bits hold: −2147483648 to 2147483647
 abbrev pub in_range : ℤ → Bool
@@ -68,38 +68,38 @@ number n [] = n
 number n (d ∷ ds) = number (n * 10 + (d - 48)) ds
 
 unfoldable pub read_integer : ℤ → List ℕ → Read
-read_integer z rest = if in_range z then token (integer z) rest else no_token
+read_integer z rest = when in_range z then token (integer z) rest else no_token
 
 -- a string of at most 64 bytes; `w` are its bytes, and a `"` has to follow
 unfoldable pub read_string : List ℕ → List ℕ → Read
 read_string w rest =
-    if leb (length w) 64 && starts (is "\"") rest then token (string w) (past_first rest) else no_token
+    when leb (length w) 64 && starts (is "\"") rest then token (string w) (past_first rest) else no_token
 
 -- one mark of two equal or unequal bytes, as `:=`: `rest` has to begin with the second
 unfoldable pub two_bytes : Bool → Fixed → List ℕ → Read → Read
-two_bytes second f rest otherwise = if second then token (fixed f) (past_first rest) else otherwise
+two_bytes second f rest otherwise = when second then token (fixed f) (past_first rest) else otherwise
 
 unfoldable pub read_mark : ℕ → List ℕ → Read
 read_mark b rest =
-    if is ":" b then two_bytes (starts (is "=") rest) assign rest (token (fixed colon) rest)
-    else if is "=" b then two_bytes (starts (is "=") rest) (operator equal) rest no_token
-    else if is "&" b then two_bytes (starts (is "&") rest) (operator and) rest no_token
-    else if is "|" b then two_bytes (starts (is "|") rest) (operator or) rest no_token
-    else if is "." b then token (fixed dot) rest
-    else if is "^" b then token (fixed up) rest
-    else if is "!" b then token (fixed bang) rest
-    else if is "+" b then token (fixed (operator plus)) rest
-    else if is "-" b then token (fixed (operator minus)) rest
-    else if is "*" b then token (fixed (operator times)) rest
-    else if is "/" b then token (fixed (operator over)) rest
-    else if is "<" b then token (fixed (operator less)) rest
-    else if is "#" b then token (fixed (operator join)) rest
-    else if is ";" b then token (fixed semicolon) rest
-    else if is "," b then token (fixed comma) rest
-    else if is "[" b then token (fixed open_square) rest
-    else if is "]" b then token (fixed close_square) rest
-    else if is "{" b then token (fixed open_curly) rest
-    else if is "}" b then token (fixed close_curly) rest
+    when is ":" b then two_bytes (starts (is "=") rest) assign rest (token (fixed colon) rest)
+    else when is "=" b then two_bytes (starts (is "=") rest) (operator equal) rest no_token
+    else when is "&" b then two_bytes (starts (is "&") rest) (operator and) rest no_token
+    else when is "|" b then two_bytes (starts (is "|") rest) (operator or) rest no_token
+    else when is "." b then token (fixed dot) rest
+    else when is "^" b then token (fixed up) rest
+    else when is "!" b then token (fixed bang) rest
+    else when is "+" b then token (fixed (operator plus)) rest
+    else when is "-" b then token (fixed (operator minus)) rest
+    else when is "*" b then token (fixed (operator times)) rest
+    else when is "/" b then token (fixed (operator over)) rest
+    else when is "<" b then token (fixed (operator less)) rest
+    else when is "#" b then token (fixed (operator join)) rest
+    else when is ";" b then token (fixed semicolon) rest
+    else when is "," b then token (fixed comma) rest
+    else when is "[" b then token (fixed open_square) rest
+    else when is "]" b then token (fixed close_square) rest
+    else when is "{" b then token (fixed open_curly) rest
+    else when is "}" b then token (fixed close_curly) rest
     else no_token
 
 -- The token at the front, where no space stands there. A `-` directly before a digit belongs to the integer.
@@ -107,10 +107,10 @@ read_mark b rest =
 unfoldable pub read : Classes → List ℕ → Read
 read c [] = end
 read c (b ∷ bs) =
-    if letter c b then read_name (while (name_byte c) (b ∷ bs)) (after (name_byte c) bs)
-    else if digit c b then read_integer (pos (number 0 (while (digit c) (b ∷ bs)))) (after (digit c) bs)
-    else if is "-" b && starts (digit c) bs then read_integer (neg_ℤ (pos (number 0 (while (digit c) bs)))) (after (digit c) bs)
-    else if is "\"" b then read_string (while string_byte bs) (after string_byte bs)
+    when letter c b then read_name (while (name_byte c) (b ∷ bs)) (after (name_byte c) bs)
+    else when digit c b then read_integer (pos (number 0 (while (digit c) (b ∷ bs)))) (after (digit c) bs)
+    else when is "-" b && starts (digit c) bs then read_integer (neg_ℤ (pos (number 0 (while (digit c) bs)))) (after (digit c) bs)
+    else when is "\"" b then read_string (while string_byte bs) (after string_byte bs)
     else read_mark b bs
 
 unfoldable pub next : Classes → List ℕ → Read

@@ -9,7 +9,7 @@ use native.Mathlib.Decide.{ℕ_discrete}
 use lib.Dec.{eqb, ltb}
 use lib.ListN.{length, length-append}
 use borrow.Author.Tests.{ne_eqb, le-ltb, eqb-true, eqb-false, ltb-true, ltb-false}
-use Rattle.framed.specs.Common.{if◌then◌else◌, any, same, member}
+use Rattle.framed.specs.Common.{when◌then◌else◌, any, same, member}
 use Rattle.framed.specs.Bytes.{class}
 use Rattle.framed.specs.Tokens.{Token}
 use Rattle.source.specs.Positions.{part}
@@ -106,7 +106,7 @@ passes_name : (k l : ℕ) → k ≡ 25 → Passes k l 1 1
 unfolding closes names_slot depth_after
 passes_name k l e = rw e (record { stays_open = λ j h. refl; no_slot = λ j h. go (eqb l 7) j h; depth_is = λ j h. omega arith })
   where
-    go : (u : Bool) (j : ℕ) → 1 ≤ j → (if u then false else eqb j 0) ≡ false
+    go : (u : Bool) (j : ℕ) → 1 ≤ j → (when u then false else eqb j 0) ≡ false
     go true j h = refl
     go false j h = ne_eqb j 0 (λ e. absurd (omega arith))
 
@@ -114,7 +114,7 @@ passes_other : (k l : ℕ) → names_slot 0 l k ≡ false → (eqb k 12 || eqb k
 unfolding closes names_slot depth_after
 passes_other k l n o c = go (eqb k 12) (eqb k 14) (eqb k 13) (eqb k 15) refl refl refl refl o c
   where
-    slot : (j : ℕ) (u v : Bool) → (if u then (if v then false else true) else false) ≡ false → (if u then (if v then false else eqb j 0) else false) ≡ false
+    slot : (j : ℕ) (u v : Bool) → (when u then (when v then false else true) else false) ≡ false → (when u then (when v then false else eqb j 0) else false) ≡ false
     slot j true true e = refl
     slot j true false e = absurd (true≢false e)
     slot j false v e = refl
@@ -299,7 +299,7 @@ closes_here : (k : ℕ) → (eqb k 13 || eqb k 15) ≡ true → closes 0 k ≡ t
 unfolding closes
 closes_here k t = go (eqb k 13) t
   where
-    go : (u : Bool) → (u || eqb k 15) ≡ true → (if u then true else if eqb k 15 then true else false) ≡ true
+    go : (u : Bool) → (u || eqb k 15) ≡ true → (when u then true else when eqb k 15 then true else false) ≡ true
     go true e = refl
     go false e = rw e
 
@@ -475,8 +475,8 @@ watched_sizes counts own false d l k j = record { counts_size = refl; own_size =
 watched_sizes counts own true d l k j = go (names_slot 0 l k) (is_added counts own d j) (eqb k 12 || eqb k 14) (ltb d 17)
   where
     go : (t u v x : Bool) → Sizes counts own (
-        if t then (if u then levels (set_word counts d (word counts d + 1)) (set_word own (d * 17 + word counts d) j) true else levels counts own false)
-        else if v then (if x then levels (set_word counts (d + 1) 0) own true else levels counts own false)
+        when t then (when u then levels (set_word counts d (word counts d + 1)) (set_word own (d * 17 + word counts d) j) true else levels counts own false)
+        else when v then (when x then levels (set_word counts (d + 1) 0) own true else levels counts own false)
         else levels counts own true)
     go true true v x = record { counts_size = set_size counts d (word counts d + 1); own_size = set_size own (d * 17 + word counts d) j }
     go true false v x = record { counts_size = refl; own_size = refl }
@@ -494,7 +494,7 @@ unfolding is_added
 can_add counts own d j = go (ltb 17 d) (ltb 128 j) (ltb 15 (word counts d)) (member j (level own (d * 17) (word counts d))) refl refl refl
   where
     go : (t u v x : Bool) → ltb 128 j ≡ u → ltb 15 (word counts d) ≡ v → member j (level own (d * 17) (word counts d)) ≡ x
-        → (if t then false else if u then false else if v then false else not x) ≡ true → CanAdd counts own d j
+        → (when t then false else when u then false else when v then false else not x) ≡ true → CanAdd counts own d j
     go true u v x eu ev ex q = absurd (false≢true q)
     go false true v x eu ev ex q = absurd (false≢true q)
     go false false true x eu ev ex q = absurd (false≢true q)
@@ -528,7 +528,7 @@ module _ (s b e : List ℕ) (n : ℕ) (counts own : List ℕ) (clean : Bool) (de
         unfolding added depth_after
         after_slot q f = go (is_added counts own depth j) refl f
           where
-            go : (u : Bool) → is_added counts own depth j ≡ u → levels counts' own' clean' ≡ (if u then levels (set_word counts depth (word counts depth + 1)) (set_word own (depth * 17 + word counts depth) j) true else levels counts own false) → Next
+            go : (u : Bool) → is_added counts own depth j ≡ u → levels counts' own' clean' ≡ (when u then levels (set_word counts depth (word counts depth + 1)) (set_word own (depth * 17 + word counts depth) j) true else levels counts own false) → Next
             go true x f =
                 let g = can_add counts own depth j x in
                 let y : k ≡ 25 = slot_name 0 last k q in
@@ -543,7 +543,7 @@ module _ (s b e : List ℕ) (n : ℕ) (counts own : List ℕ) (clean : Bool) (de
             deeper : (x : ℕ) → x + 0 ≡ depth + 1 → x ≡ depth + 1
             deeper x e = omega arith
 
-            go : (u : Bool) → ltb depth 17 ≡ u → levels counts' own' clean' ≡ (if u then levels (set_word counts (depth + 1) 0) own true else levels counts own false) → Next
+            go : (u : Bool) → ltb depth 17 ≡ u → levels counts' own' clean' ≡ (when u then levels (set_word counts (depth + 1) 0) own true else levels counts own false) → Next
             go true x f =
                 rw (ap (λ (v : Levels). v.counts) f, ap (λ (v : Levels). v.own) f, deeper (depth_after depth k) ((passes_open k last q).depth_is depth (omega arith)))
                 (after_open s b' e' n' counts own last at r found k a p w h depth c i.counts_size (ltb-true depth 17 x) q)
@@ -554,7 +554,7 @@ module _ (s b e : List ℕ) (n : ℕ) (counts own : List ℕ) (clean : Bool) (de
       still_clean t = go clean refl m.is
         where
           by : Clean s b' e' n' counts own depth last at → (u v : Bool) → names_slot 0 last k ≡ u → (eqb k 12 || eqb k 14) ≡ v
-              → levels counts' own' clean' ≡ (if u then added counts own depth j else if v then opened counts own depth else levels counts own true) → Next
+              → levels counts' own' clean' ≡ (when u then added counts own depth j else when v then opened counts own depth else levels counts own true) → Next
           by c true v x y f = after_slot c t x f
           by c false true x y f = after_bracket c t y f
           by c false false x y f =

@@ -1,7 +1,7 @@
 -- Document 01, the table, number 8: the slots of all open brackets, by the numbers of their names. The bracket that was opened as the d-th has level d: the count of its
 -- slots at d, and the numbers of their names from 17 d on. Assumes nothing.
 use Rattle.std.specs.Prelude.{◌≡◌, Bool, true, false, not, ◌||◌, List, [], ◌∷◌, ◌++◌, ℕ, zero, suc, ◌+◌, ◌*◌, ◌<◌, ◌≤◌, eqb, ltb}
-use Rattle.framed.specs.Common.{if◌then◌else◌, member}
+use Rattle.framed.specs.Common.{when◌then◌else◌, member}
 use Rattle.source.specs.Positions.{part}
 use Rattle.words.specs.Words.{word, set_word}
 use Rattle.slots.specs.Own.{names_slot}
@@ -26,14 +26,14 @@ levels counts own clean = record { counts = counts; own = own; clean = clean }
 -- name j can be one more slot of level d
 unfoldable pub is_added : List ℕ → List ℕ → ℕ → ℕ → Bool
 is_added counts own d j =
-    if ltb 17 d then false
-    else if ltb 128 j then false
-    else if ltb 15 (word counts d) then false
+    when ltb 17 d then false
+    else when ltb 128 j then false
+    else when ltb 15 (word counts d) then false
     else not (member j (level own (d * 17) (word counts d)))
 
 unfoldable pub added : List ℕ → List ℕ → ℕ → ℕ → Levels
 added counts own d j =
-    if is_added counts own d j then levels (set_word counts d (word counts d + 1)) (set_word own (d * 17 + word counts d) j) true
+    when is_added counts own d j then levels (set_word counts d (word counts d + 1)) (set_word own (d * 17 + word counts d) j) true
     else levels counts own false
 
 pub record Adds (counts own : List ℕ) (d j : ℕ) (counts' own' : List ℕ) (r : Bool) : Type 0 where
@@ -42,7 +42,7 @@ pub record Adds (counts own : List ℕ) (d j : ℕ) (counts' own' : List ℕ) (r
 -- where d brackets are open, one more is opened
 unfoldable pub opened : List ℕ → List ℕ → ℕ → Levels
 opened counts own d =
-    if ltb d 17 then levels (set_word counts (d + 1) 0) own true
+    when ltb d 17 then levels (set_word counts (d + 1) 0) own true
     else levels counts own false
 
 pub record Opens (counts : List ℕ) (d : ℕ) (counts' : List ℕ) (r : Bool) : Type 0 where
@@ -52,8 +52,8 @@ pub record Opens (counts : List ℕ) (d : ℕ) (counts' : List ℕ) (r : Bool) :
 unfoldable pub watched : List ℕ → List ℕ → Bool → ℕ → ℕ → ℕ → ℕ → Levels
 watched counts own false d l k j = levels counts own false
 watched counts own true d l k j =
-    if names_slot 0 l k then added counts own d j
-    else if eqb k 12 || eqb k 14 then opened counts own d
+    when names_slot 0 l k then added counts own d j
+    else when eqb k 12 || eqb k 14 then opened counts own d
     else levels counts own true
 
 pub record Watches (counts own : List ℕ) (clean : Bool) (d l k j : ℕ) (counts' own' : List ℕ) (r : Bool) : Type 0 where

@@ -7,7 +7,7 @@ use native.Mathlib.Omega.{arith}
 use lib.Dec.{eqb, leb}
 use lib.ListN.{length, take, drop, get_or, length-drop}
 use borrow.Author.Tests.{leb-false, eq-eqb, ne_eqb, le-leb, lt-leb}
-use Rattle.framed.specs.Common.{if◌then◌else◌, bytes, same, while, after}
+use Rattle.framed.specs.Common.{when◌then◌else◌, bytes, same, while, after}
 use Rattle.framed.specs.Bytes.{Classes, name_byte}
 use Rattle.framed.specs.Tokens.{number}
 use Rattle.framed.proofs.TokensExact.{after_shorter}
@@ -204,7 +204,7 @@ capped_close n [] = equal refl
 capped_close n (d ∷ ds) = go (leb n 2147483648) refl (capped_close (n * 10 + (d - 48)) ds)
   where
     go : (t : Bool) → leb n 2147483648 ≡ t → Close (number (n * 10 + (d - 48)) ds) (capped (n * 10 + (d - 48)) ds) →
-        Close (number (n * 10 + (d - 48)) ds) (capped (if t then n * 10 + (d - 48) else n) ds)
+        Close (number (n * 10 + (d - 48)) ds) (capped (when t then n * 10 + (d - 48) else n) ds)
     go true e h = h
     go false e _ =
         let h : 2147483648 < n = leb-false n 2147483648 e in

@@ -1,7 +1,7 @@
 -- Document 01, "Tokens and grammar", what tokens are made of: runs of bytes of a class, reserved words, and the number that digits write.
 -- For every class of bytes `c`. Assumes nothing.
 use Rattle.std.specs.Prelude.{◌≡◌, Bool, true, List, [], ◌∷◌, ℕ, zero, suc, ◌+◌, ◌*◌, ◌-◌, ◌<◌, ◌≤◌, max, leb, length}
-use Rattle.framed.specs.Common.{if◌then◌else◌, bytes, same, after}
+use Rattle.framed.specs.Common.{when◌then◌else◌, bytes, same, after}
 use Rattle.framed.specs.Bytes.{Classes, digit, name_byte, string_byte}
 use Rattle.source.specs.Positions.{rest, byte}
 
@@ -25,17 +25,17 @@ pub record RunEnds (c : Classes) (s : List ℕ) (m i j : ℕ) : Type 0 where
 -- the kind of a word: a reserved word's, or 25, a name's
 unfoldable pub word_kind : List ℕ → ℕ
 word_kind w =
-    if same w (bytes "frame") then 0
-    else if same w (bytes "code") then 28
-    else if same w (bytes "self") then 1
-    else if same w (bytes "show") then 2
-    else if same w (bytes "jump") then 3
-    else if same w (bytes "ifeq") then 4
+    when same w (bytes "frame") then 0
+    else when same w (bytes "code") then 28
+    else when same w (bytes "self") then 1
+    else when same w (bytes "show") then 2
+    else when same w (bytes "jump") then 3
+    else when same w (bytes "ifeq") then 4
     else 25
 
 -- `number` of Tokens, which stays as it is once it is above 2147483648: so no sum grows without bound
 unfoldable pub pushed : ℕ → ℕ → ℕ
-pushed n b = if leb n 2147483648 then n * 10 + (b - 48) else n
+pushed n b = when leb n 2147483648 then n * 10 + (b - 48) else n
 
 unfoldable pub capped : ℕ → List ℕ → ℕ
 capped n [] = n

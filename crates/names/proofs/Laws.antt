@@ -12,7 +12,7 @@ use lib.Dec.{eqb, ltb}
 use lib.ListN.{length, length-append, drop, set, drop_of_length-le}
 use lib.Seq.{drop-cons}
 use borrow.Author.Tests.{ne_eqb, lt-ltb, eqb-true, eqb-false}
-use Rattle.framed.specs.Common.{if◌then◌else◌, any, same}
+use Rattle.framed.specs.Common.{when◌then◌else◌, any, same}
 use Rattle.framed.specs.Bytes.{class}
 use Rattle.framed.specs.Tokens.{Token, tokens}
 use Rattle.framed.specs.Symbols.{names_after, name_table, number_in}
@@ -166,22 +166,22 @@ module _ (s b e hints : List ℕ) (n a p : ℕ) (m : Marked s b e hints n) (hb :
 
 -- ---- The number of a name
 
-pub number_last : (vs : List (List ℕ)) (v w : List ℕ) → number_in vs w ≡ length vs → number_in (vs ++ (v ∷ [])) w ≡ (if same v w then length vs else suc (length vs))
+pub number_last : (vs : List (List ℕ)) (v w : List ℕ) → number_in vs w ≡ length vs → number_in (vs ++ (v ∷ [])) w ≡ (when same v w then length vs else suc (length vs))
 unfolding number_in
 number_last [] v w e = go (same v w)
   where
-    go : (t : Bool) → ◌≡◌ {A = ℕ} (elim t [ true ↦ 0 | false ↦ 1 ]) (if t then 0 else 1)
+    go : (t : Bool) → ◌≡◌ {A = ℕ} (elim t [ true ↦ 0 | false ↦ 1 ]) (when t then 0 else 1)
     go true = refl
     go false = refl
 number_last (u ∷ vs) v w e = go (same u w) e (number_last vs v w)
   where
-    more : (t : Bool) (n : ℕ) → suc (if t then n else suc n) ≡ (if t then suc n else suc (suc n))
+    more : (t : Bool) (n : ℕ) → suc (when t then n else suc n) ≡ (when t then suc n else suc (suc n))
     more true n = refl
     more false n = refl
 
     go : (t : Bool) → ◌≡◌ {A = ℕ} (elim t [ true ↦ 0 | false ↦ suc (number_in vs w) ]) (suc (length vs)) →
-        (number_in vs w ≡ length vs → number_in (vs ++ (v ∷ [])) w ≡ (if same v w then length vs else suc (length vs))) →
-        ◌≡◌ {A = ℕ} (elim t [ true ↦ 0 | false ↦ suc (number_in (vs ++ (v ∷ [])) w) ]) (if same v w then suc (length vs) else suc (suc (length vs)))
+        (number_in vs w ≡ length vs → number_in (vs ++ (v ∷ [])) w ≡ (when same v w then length vs else suc (length vs))) →
+        ◌≡◌ {A = ℕ} (elim t [ true ↦ 0 | false ↦ suc (number_in (vs ++ (v ∷ [])) w) ]) (when same v w then suc (length vs) else suc (suc (length vs)))
     go true e h = absurd (omega arith)
     go false e h = ap suc (h (omega arith)) ∙ more (same v w) (length vs)
 
@@ -255,10 +255,10 @@ is_new s begins ends n k a p = eqb k 25 && not (any (same (part s a p)) (table_o
 
 -- such a token is kept as the next name, with a hint
 pub record Noted (s begins ends hints : List ℕ) (n k a p : ℕ) (begins' ends' hints' : List ℕ) (r : ℕ) : Type 0 where
-  pub begins_is : begins' ≡ (if is_new s begins ends n k a p then set_word begins n a else begins)
-  pub ends_is : ends' ≡ (if is_new s begins ends n k a p then set_word ends n p else ends)
-  pub hints_are : hints' ≡ (if is_new s begins ends n k a p then set_word hints (hash_of (part s a p)) (n + 1) else hints)
-  pub count_is : r ≡ (if is_new s begins ends n k a p then n + 1 else n)
+  pub begins_is : begins' ≡ (when is_new s begins ends n k a p then set_word begins n a else begins)
+  pub ends_is : ends' ≡ (when is_new s begins ends n k a p then set_word ends n p else ends)
+  pub hints_are : hints' ≡ (when is_new s begins ends n k a p then set_word hints (hash_of (part s a p)) (n + 1) else hints)
+  pub count_is : r ≡ (when is_new s begins ends n k a p then n + 1 else n)
 
 module _ (s b e hints : List ℕ) (n k a p : ℕ) where
   pub keep_other : (k ≡ 25 → ⊥) → Noted s b e hints n k a p b e hints n
@@ -274,7 +274,7 @@ grows table [] = omega arith
 grows table (Token.name w ∷ ts) = go (any (same w) table) (grows table ts) (grows (table ++ (w ∷ [])) ts)
   where
     go : (t : Bool) → length table ≤ length (names_after table ts) → length (table ++ (w ∷ [])) ≤ length (names_after (table ++ (w ∷ [])) ts)
-        → length table ≤ length (names_after (if t then table else table ++ (w ∷ [])) ts)
+        → length table ≤ length (names_after (when t then table else table ++ (w ∷ [])) ts)
     go true a b = a
     go false a b = omega (arith, length-append table (w ∷ []))
 grows table (Token.integer z ∷ ts) = grows table ts
@@ -291,16 +291,16 @@ names_other table Token.code ts n = refl
 names_other table (Token.fixed f) ts n = refl
 
 pub names_name : (s : List ℕ) (a p w : ℕ) (table : List (List ℕ)) (ts : List Token) →
-    names_after table (token_of s 25 a p w ∷ ts) ≡ names_after (if any (same (part s a p)) table then table else table ++ (part s a p ∷ [])) ts
+    names_after table (token_of s 25 a p w ∷ ts) ≡ names_after (when any (same (part s a p)) table then table else table ++ (part s a p ∷ [])) ts
 unfolding names_after token_of
 names_name s a p w table ts = refl
 
 names_step : (s : List ℕ) (k a p w : ℕ) (table : List (List ℕ)) (ts : List Token) → k < 29 →
-    names_after table (token_of s k a p w ∷ ts) ≡ names_after (if (eqb k 25 && not (any (same (part s a p)) table)) then table ++ (part s a p ∷ []) else table) ts
+    names_after table (token_of s k a p w ∷ ts) ≡ names_after (when (eqb k 25 && not (any (same (part s a p)) table)) then table ++ (part s a p ∷ []) else table) ts
 names_step s k a p w table ts l = go (eqb k 25) refl (any (same (part s a p)) table) refl
   where
     go : (t : Bool) → eqb k 25 ≡ t → (u : Bool) → any (same (part s a p)) table ≡ u →
-        names_after table (token_of s k a p w ∷ ts) ≡ names_after (if (t && not u) then table ++ (part s a p ∷ []) else table) ts
+        names_after table (token_of s k a p w ∷ ts) ≡ names_after (when (t && not u) then table ++ (part s a p ∷ []) else table) ts
     go true x true y = rw (eqb-true k 25 x) (names_name s a p w table ts ∙ rw y)
     go true x false y = rw (eqb-true k 25 x) (names_name s a p w table ts ∙ rw y)
     go false x u y = names_other table (token_of s k a p w) ts (λ f. eqb-false k 25 x (sym (kind_is s a p w k l) ∙ f))
@@ -366,7 +366,7 @@ module _ (s b e hints : List ℕ) (n at : ℕ) (i : Keeping s b e hints n at) wh
           spot : Spot at (length s) k a p
           spot = spot_of r found.on h
 
-          go : (t : Bool) → (eqb k 25 && not (any (same (part s a p)) (table_of s b e n))) ≡ t → b' ≡ (if t then set_word b n a else b) → e' ≡ (if t then set_word e n p else e) → hints' ≡ (if t then set_word hints (hash_of (part s a p)) (n + 1) else hints) → n' ≡ (if t then n + 1 else n) → After
+          go : (t : Bool) → (eqb k 25 && not (any (same (part s a p)) (table_of s b e n))) ≡ t → b' ≡ (when t then set_word b n a else b) → e' ≡ (when t then set_word e n p else e) → hints' ≡ (when t then set_word hints (hash_of (part s a p)) (n + 1) else hints) → n' ≡ (when t then n + 1 else n) → After
           go true x eb ee eh en = record {
             begins_size = rw eb (set_size b n a ∙ i.begins_size);
             ends_size = rw ee (set_size e n p ∙ i.ends_size);

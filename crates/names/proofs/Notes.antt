@@ -8,7 +8,7 @@ use native.Mathlib.Omega.{arith}
 use lib.Dec.{eqb}
 use lib.ListN.{length}
 use borrow.Author.Tests.{eqb-false}
-use Rattle.framed.specs.Common.{if◌then◌else◌}
+use Rattle.framed.specs.Common.{when◌then◌else◌}
 use Rattle.framed.specs.Bytes.{class}
 use Rattle.framed.specs.Symbols.{number_in}
 use Rattle.source.specs.Positions.{part}
@@ -45,11 +45,11 @@ leads_other l f = record { leads = λ j h a p w g t. ⊎_elim (λ q. l.leads j h
 
 -- the entry of a name, with 1 and its number
 module _ {c c' s b e hints b' e' hints' : List ℕ} {n at a p w r n' : ℕ} (l : Leads c s b e n) (t : TokenAt class s at (TokenRead.Token 25 a p w)) (f : NotesFrom c c' at (r + 1))
-    (k : KeptAs s b e hints n a p b' e' hints' r) (en : n' ≡ (if eqb r n then n + 1 else n)) (lb : length b ≡ 129) (le : length e ≡ 129) (few : n ≤ 128) where
+    (k : KeptAs s b e hints n a p b' e' hints' r) (en : n' ≡ (when eqb r n then n + 1 else n)) (lb : length b ≡ 129) (le : length e ≡ 129) (few : n ≤ 128) where
   pub leads_name : Leads c' s b' e' n'
   leads_name = record { leads = λ j h x q v g u. ⊎_elim (before j h x q v u) (λ z. here j h x q v u z.0 z.1) (f.from j h g) }
     where
-      counted : (m : Bool) → eqb r n ≡ m → n' ≡ (if m then n + 1 else n) → (n ≤ n') × (r < n')
+      counted : (m : Bool) → eqb r n ≡ m → n' ≡ (when m then n + 1 else n) → (n ≤ n') × (r < n')
       counted true d z = (omega arith, omega (arith, (kept_here k lb le few).0))
       counted false d z = (omega arith, omega (arith, (kept_here k lb le few).0, eqb-false r n d))
 

@@ -9,7 +9,7 @@ use native.Mathlib.Decide.{ℕ_discrete, dec_lt}
 use lib.Dec.{eqb}
 use lib.ListN.{length, set}
 use borrow.Author.Tests.{eq-eqb, ne_eqb}
-use Rattle.framed.specs.Common.{if◌then◌else◌, any, same}
+use Rattle.framed.specs.Common.{when◌then◌else◌, any, same}
 use Rattle.framed.specs.Symbols.{number_in}
 use Rattle.source.specs.Positions.{part}
 use Rattle.words.specs.Words.{word, set_word}
@@ -49,7 +49,7 @@ seek_end s b e n w k i l = go (same_number k n i.within l)
 
 module _ (s b e : List ℕ) (n : ℕ) (w : List ℕ) (k : ℕ) (i : Seeking s b e n w k) (l : k < n) (x y j j' : ℕ) (ej : j ≡ k) (ex : x ≡ word b j) (ej' : j' ≡ k) (ey : y ≡ word e j')
     (v : List ℕ) (ev : v ≡ part s x y) (t : Bool) (h : t ≡ same v w) where
-  seek_last : number_in (table_of s b e (suc k)) w ≡ (if t then k else suc k)
+  seek_last : number_in (table_of s b e (suc k)) w ≡ (when t then k else suc k)
   unfolding table_of
   seek_last =
       number_last (table_of s b e k) (part s (word b k) (word e k)) w (i.not_yet ∙ sym (table_length s b e k))
@@ -96,7 +96,7 @@ unfolding table_of
 table_finds s b e w zero k ek l = absurd (omega arith)
 table_finds s b e w (suc n) k ek l = go (dec_lt (number_in (table_of s b e n) w) n) (λ q m. table_finds s b e w n k q m)
   where
-    last : (t : Bool) → same (part s (word b n) (word e n)) w ≡ t → k ≡ (if t then n else suc n) → part s (word b k) (word e k) ≡ w
+    last : (t : Bool) → same (part s (word b n) (word e n)) w ≡ t → k ≡ (when t then n else suc n) → part s (word b k) (word e k) ≡ w
     last true d q = rw q (same_equal (part s (word b n) (word e n)) w d)
     last false d q = absurd (omega arith)
 
@@ -140,7 +140,7 @@ module _ (s b e hints : List ℕ) (n a p r : ℕ) (er : r ≡ number_in (table_o
 
 module _ {s b e hints : List ℕ} {n a p : ℕ} {b' e' hints' : List ℕ} {r : ℕ} (k : KeptAs s b e hints n a p b' e' hints' r) where
   -- as the loop that keeps names has it
-  pub kept_noted : {n' : ℕ} → n' ≡ (if eqb r n then n + 1 else n) → Noted s b e hints n 25 a p b' e' hints' n'
+  pub kept_noted : {n' : ℕ} → n' ≡ (when eqb r n then n + 1 else n) → Noted s b e hints n 25 a p b' e' hints' n'
   kept_noted en =
       let g : is_new s b e n 25 a p ≡ eqb r n = new_is s b e n a p r k.number_is in
       record { begins_is = rw g k.begins_is; ends_is = rw g k.ends_is; hints_are = rw g k.hints_are; count_is = rw g en }
@@ -163,6 +163,6 @@ module _ {s b e hints : List ℕ} {n a p : ℕ} {b' e' hints' : List ℕ} {r : �
       less : j ≡ n → ⊥
       less q = omega arith
 
-      go : (t : Bool) → b' ≡ (if t then set_word b n a else b) → e' ≡ (if t then set_word e n p else e) → (word b' j ≡ word b j) × (word e' j ≡ word e j)
+      go : (t : Bool) → b' ≡ (when t then set_word b n a else b) → e' ≡ (when t then set_word e n p else e) → (word b' j ≡ word b j) × (word e' j ≡ word e j)
       go true eb ee = (rw eb (word_other b n j a (word b j) less refl), rw ee (word_other e n j p (word e j) less refl))
       go false eb ee = (rw eb, rw ee)

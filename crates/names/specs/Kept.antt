@@ -1,7 +1,7 @@
 -- Document 01, "Limits and paths": distinct names. Names are kept by where each begins and ends in the source. Assumes nothing.
 use Rattle.std.specs.Prelude.{◌≡◌, List, [], ◌∷◌, ◌++◌, ℕ, zero, suc, ◌+◌, ◌*◌, ◌%◌, ◌<◌, ◌≤◌, eqb, ltb, length}
 use Rattle.std.proofs.Math.Option.{some}
-use Rattle.framed.specs.Common.{if◌then◌else◌}
+use Rattle.framed.specs.Common.{when◌then◌else◌}
 use Rattle.framed.specs.Bytes.{class}
 use Rattle.framed.specs.Tokens.{Token, tokens}
 use Rattle.framed.specs.Symbols.{name_table, number_in}
@@ -27,9 +27,9 @@ hash_of w = hash_from 0 w
 -- the part from a up to p is name r; where it was none of the first n, it is kept as name n, with a hint
 pub record KeptAs (s begins ends hints : List ℕ) (n a p : ℕ) (begins' ends' hints' : List ℕ) (r : ℕ) : Type 0 where
   pub number_is : r ≡ number_in (table_of s begins ends n) (part s a p)
-  pub begins_is : begins' ≡ (if eqb r n then set_word begins n a else begins)
-  pub ends_is : ends' ≡ (if eqb r n then set_word ends n p else ends)
-  pub hints_are : hints' ≡ (if eqb r n then set_word hints (hash_of (part s a p)) (n + 1) else hints)
+  pub begins_is : begins' ≡ (when eqb r n then set_word begins n a else begins)
+  pub ends_is : ends' ≡ (when eqb r n then set_word ends n p else ends)
+  pub hints_are : hints' ≡ (when eqb r n then set_word hints (hash_of (part s a p)) (n + 1) else hints)
 
 -- each of the first n names kept has a hint by its hash
 pub record Marked (s begins ends hints : List ℕ) (n : ℕ) : Type 0 where

@@ -10,7 +10,7 @@ use lib.Dec.{leb}
 use lib.ListN.{length}
 use borrow.Author.Tests.{leb-true}
 use Rattle.framed.specs.declared.Value.{Value}
-use Rattle.framed.specs.Common.{if◌then◌else◌}
+use Rattle.framed.specs.Common.{when◌then◌else◌}
 use Rattle.framed.specs.Tokens.{Operator, in_range}
 use Rattle.framed.specs.Values.{join_bytes}
 use Rattle.framed.specs.Equality.{Constants}
@@ -28,7 +28,7 @@ ranged_modest : {c : ℕ} (z : ℤ) → Modest c (ranged z)
 unfolding ranged
 ranged_modest {c} z = step (in_range z) refl
   where
-    step : (t : Bool) → in_range z ≡ t → Modest c (if t then gives (number z) else ends 33)
+    step : (t : Bool) → in_range z ≡ t → Modest c (when t then gives (number z) else ends 33)
     step true e = a_number e
     step false e = an_end
 
@@ -36,7 +36,7 @@ measured_modest : (bs : List ℕ) → Modest 1 (measured bs)
 unfolding measured
 measured_modest bs = step (leb (length bs) 64) refl
   where
-    step : (t : Bool) → leb (length bs) 64 ≡ t → Modest 1 (if t then gives (text bs) else ends 34)
+    step : (t : Bool) → leb (length bs) 64 ≡ t → Modest 1 (when t then gives (text bs) else ends 34)
     step true e = a_text (omega arith) (leb-true (length bs) 64 e)
     step false e = an_end
 

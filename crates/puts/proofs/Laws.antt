@@ -9,7 +9,7 @@ use lib.ListN.{length, get_elem?}
 use lib.Dec.{ltb}
 use borrow.Author.Tests.{lt-ltb, le-ltb, not-true, not-false}
 use Rattle.words.specs.Words.{pick}
-use Rattle.framed.specs.Common.{if◌then◌else◌}
+use Rattle.framed.specs.Common.{when◌then◌else◌}
 use Rattle.framed.specs.declared.Value.{Value}
 use Rattle.framed.specs.Values.{Slot, Frame, new_frame}
 use Rattle.framed.specs.Fetch.{◌>>=◌, in_slots, in_frame, get, fetch}
@@ -140,7 +140,7 @@ module _ (h : List ℕ) (f x : ℕ) where
       unfolding slot_end
       end_used = rw (frame_found h f lt, frame_of_used h f (sym eb ∙ not-false b u)) (go (has_place (new_frame (maker_at h f) (slots_held h f)) x))
         where
-          go : (b : Bool) → ◌≡◌ {A = ℕ} (if b then 0 else 35) (pick b 0 35)
+          go : (b : Bool) → ◌≡◌ {A = ℕ} (when b then 0 else 35) (pick b 0 35)
           go true = refl
           go false = refl
 

@@ -9,7 +9,7 @@ use lib.Dec.{leb, ltb, eqb}
 use lib.ListN.{length}
 use borrow.Author.Tests.{lt-ltb, le-ltb, le-leb, lt-leb}
 use Rattle.words.specs.Words.{pick}
-use Rattle.framed.specs.Common.{if◌then◌else◌}
+use Rattle.framed.specs.Common.{when◌then◌else◌}
 use Rattle.framed.specs.Tree.{Instruction, Code}
 use Rattle.framed.specs.Paths.{Path}
 use Rattle.framed.specs.Machine.{frame_literals, join_signs, right_side}
@@ -25,7 +25,7 @@ use Rattle.word_store.specs.State.{store_held, state_held}
 use Rattle.word_store.proofs.Updates.{KeepsHeader, keeps_all, keeps_pick, keeps_collect, held_read, held_after}
 use Rattle.reserving.specs.Reserving.{room_end_held, reserved_words, Reserves}
 
-if_pick : {A : Type 0} (b : Bool) (x y : A) → pick b x y ≡ (if b then x else y)
+if_pick : {A : Type 0} (b : Bool) (x y : A) → pick b x y ≡ (when b then x else y)
 if_pick true x y = refl
 if_pick false x y = refl
 
@@ -47,7 +47,7 @@ module _ (remaining_from : ℕ → Code Path) (p h t : List ℕ) (f n : ℕ) whe
   room_end_is =
       rw (frame_count_is, text_count_is)
       (if_pick (ltb (frame_limit p) (length (frames_in_use h) + f)) 36 (pick (ltb (text_limit p) (length (texts_in_use h) + n)) 37 0)
-      ∙ ap (λ (x : ℕ). if ltb (frame_limit p) (length (frames_in_use h) + f) then 36 else x) (if_pick (ltb (text_limit p) (length (texts_in_use h) + n)) 37 0))
+      ∙ ap (λ (x : ℕ). when ltb (frame_limit p) (length (frames_in_use h) + f) then 36 else x) (if_pick (ltb (text_limit p) (length (texts_in_use h) + n)) 37 0))
 
   -- there is room exactly where the end is 0
   room_test : eqb (room_end_held p h f n) 0 ≡ (leb (length (frames_in_use h) + f) (frame_limit p) && leb (length (texts_in_use h) + n) (text_limit p))
@@ -69,7 +69,7 @@ module _ (remaining_from : ℕ → Code Path) (p h t : List ℕ) (f n : ℕ) whe
   reserved_state size = rw (frame_count_is, text_count_is, room_test) (go (leb (length (frames_in_use h) + f) (frame_limit p) && leb (length (texts_in_use h) + n) (text_limit p)))
     where
       go : (b : Bool) → state_held remaining_from (pick b h (collect_heap h).words) t
-          ≡ over_store (state_held remaining_from h t) (if b then store_held h t else word_store.collect (self_held h) (program_held h) (store_held h t))
+          ≡ over_store (state_held remaining_from h t) (when b then store_held h t else word_store.collect (self_held h) (program_held h) (store_held h t))
       go true = refl
       go false = (held_after remaining_from h t size).collect
 

@@ -6,7 +6,7 @@ use Prim.Native.Nat.{ℕ, ◌+◌}
 use lib.Dec.{leb}
 use lib.ListN.{length}
 use Rattle.framed.specs.declared.Value.{Value}
-use Rattle.framed.specs.Common.{if◌then◌else◌}
+use Rattle.framed.specs.Common.{when◌then◌else◌}
 use Rattle.framed.specs.Tree.{Expression, Slots, Instruction, Code}
 use Rattle.framed.specs.Paths.{Path, from_self, from_program}
 use Rattle.framed.specs.Program.{Program}
@@ -101,7 +101,7 @@ rooms : (F T f t : ℕ) (Σ Π : Value) (s : Memories) → length (make_room wor
 unfolding make_room Cleared collect_rooted
 rooms F T f t Σ Π s size c = go (leb (word_store.frame_count s + f) F && leb (word_store.text_count s + t) T) size
   where
-    go : (r : Bool) → length (if r then s else word_store.collect Σ Π s).heap ≡ 16384 → Cleared (if r then s else word_store.collect Σ Π s)
+    go : (r : Bool) → length (when r then s else word_store.collect Σ Π s).heap ≡ 16384 → Cleared (when r then s else word_store.collect Σ Π s)
     go true z = c
     go false z = clear_twice _ (sym (clear_size _) ∙ z)
 

@@ -8,7 +8,7 @@ use native.Mathlib.Omega.{arith}
 use lib.Dec.{eqb}
 use lib.ListN.{length}
 use borrow.Author.Tests.{ne_eqb, lt-ltb, le-ltb}
-use Rattle.framed.specs.Common.{if◌then◌else◌}
+use Rattle.framed.specs.Common.{when◌then◌else◌}
 use Rattle.framed.specs.Tokens.{Token, Fixed, Operator, tokens, highest_nesting, open_after, next, read, skip, prepend, end}
 use Rattle.framed.specs.Bytes.{Classes, class}
 use Rattle.framed.proofs.TokensExact.{tokens_end}
@@ -116,7 +116,7 @@ pub depth_small : (n k : ℕ) → depth_after n k ≤ n + 1
 unfolding depth_after
 depth_small n k = go (eqb k 12) (eqb k 14) (eqb k 13) (eqb k 15)
   where
-    go : (t u v w : Bool) → (if t then n + 1 else if u then n + 1 else if v then n - 1 else if w then n - 1 else n) ≤ n + 1
+    go : (t u v w : Bool) → (when t then n + 1 else when u then n + 1 else when v then n - 1 else when w then n - 1 else n) ≤ n + 1
     go true u v w = omega arith
     go false true v w = omega arith
     go false false true w = omega arith

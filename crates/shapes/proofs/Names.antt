@@ -9,7 +9,7 @@ use native.Mathlib.Decide.{dec_lt}
 use lib.ListN.{length, get_or, length-append, get_or-append}
 use lib.Seq.{get_or-append_seam}
 use lib.IntN.{ℤ}
-use Rattle.framed.specs.Common.{if◌then◌else◌, any, same}
+use Rattle.framed.specs.Common.{when◌then◌else◌, any, same}
 use Rattle.framed.specs.Tokens.{Token, Fixed, in_range}
 use Rattle.framed.specs.Symbols.{Symbol, number_in, names_after, literals, numbered}
 use Rattle.framed.proofs.Lists.{same_self, same_equal}
@@ -54,9 +54,9 @@ module _ (table : List (List ℕ)) (w : List ℕ) where
 pub names_shaped : (table : List (List ℕ)) (ts : List Token) → AllShaped ts → TableShaped table → TableShaped (names_after table ts)
 unfolding names_after
 names_shaped table [] a h = h
-names_shaped table (Token.name w ∷ ts) (AllShaped.more (TokenShaped.name n) a) h = names_shaped (if any (same w) table then table else table ++ (w ∷ [])) ts a (go (any (same w) table) refl)
+names_shaped table (Token.name w ∷ ts) (AllShaped.more (TokenShaped.name n) a) h = names_shaped (when any (same w) table then table else table ++ (w ∷ [])) ts a (go (any (same w) table) refl)
   where
-    go : (t : Bool) → any (same w) table ≡ t → TableShaped (if t then table else table ++ (w ∷ []))
+    go : (t : Bool) → any (same w) table ≡ t → TableShaped (when t then table else table ++ (w ∷ []))
     go true e = h
     go false e = table_more table w h n e
 names_shaped table (Token.integer z ∷ ts) (AllShaped.more t a) h = names_shaped table ts a h
@@ -128,9 +128,9 @@ known_front (v ∷ vs) more w h = go (same v w) refl h.below (λ q. known_front 
 known_more : (table : List (List ℕ)) (ts : List Token) (w : List ℕ) → Known table w → Known (names_after table ts) w
 unfolding names_after
 known_more table [] w h = h
-known_more table (Token.name v ∷ ts) w h = known_more (if any (same v) table then table else table ++ (v ∷ [])) ts w (go (any (same v) table))
+known_more table (Token.name v ∷ ts) w h = known_more (when any (same v) table then table else table ++ (v ∷ [])) ts w (go (any (same v) table))
   where
-    go : (t : Bool) → Known (if t then table else table ++ (v ∷ [])) w
+    go : (t : Bool) → Known (when t then table else table ++ (v ∷ [])) w
     go true = h
     go false = known_front table (v ∷ []) w h
 known_more table (Token.integer z ∷ ts) w h = known_more table ts w h
@@ -158,10 +158,10 @@ module _ (T : List (List ℕ)) (L : ℕ) where
   unfolding names_after numbered literals
   ordered table [] s c a e l = Ordered.done {s = s} (omega arith)
   ordered table (Token.name w ∷ ts) s c (AllShaped.more t a) e l =
-      Ordered.name (subst (λ (u : List (List ℕ)). Known u w) e (known_more (if any (same w) table then table else table ++ (w ∷ [])) ts w (go (any (same w) table) refl))).below
-      (ordered (if any (same w) table then table else table ++ (w ∷ [])) ts s c a e l)
+      Ordered.name (subst (λ (u : List (List ℕ)). Known u w) e (known_more (when any (same w) table then table else table ++ (w ∷ [])) ts w (go (any (same w) table) refl))).below
+      (ordered (when any (same w) table then table else table ++ (w ∷ [])) ts s c a e l)
     where
-      go : (t : Bool) → any (same w) table ≡ t → Known (if t then table else table ++ (w ∷ [])) w
+      go : (t : Bool) → any (same w) table ≡ t → Known (when t then table else table ++ (w ∷ [])) w
       go true q = known_any table w q
       go false q = known_last table w
   ordered table (Token.integer z ∷ ts) s c (AllShaped.more (TokenShaped.integer r) a) e l = Ordered.integer r (ordered table ts s c a e l)

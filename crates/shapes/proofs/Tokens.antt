@@ -8,7 +8,7 @@ use lib.ListN.{length, get_or}
 use lib.IntN.{ℤ}
 use lib.Dec.{leb, eqb}
 use borrow.Author.Tests.{leb-true, eqb-true}
-use Rattle.framed.specs.Common.{if◌then◌else◌, bytes, is, same, while, starts, between, member}
+use Rattle.framed.specs.Common.{when◌then◌else◌, bytes, is, same, while, starts, between, member}
 use Rattle.framed.specs.Bytes.{class, letter, digit, name_byte, string_byte, in_letters, in_digits, space_bytes, mark_bytes}
 use Rattle.framed.specs.Tokens.{Token, Fixed, in_range, Read, skip, word, read_name, read_integer, read_string, two_bytes, read_mark, read, next, Tokens⊢}
 use Rattle.tables.proofs.Bools.{split2, or_left}
@@ -22,7 +22,7 @@ one_of_three false true c e f g h = g refl
 one_of_three false false c e f g h = h e
 
 -- a choice: what holds where the test holds, and where it does not
-choose : {A : Type 0} (P : A → Type 0) (t : Bool) (x y : A) → (t ≡ true → P x) → (t ≡ false → P y) → P (if t then x else y)
+choose : {A : Type 0} (P : A → Type 0) (t : Bool) (x y : A) → (t ≡ true → P x) → (t ≡ false → P y) → P (when t then x else y)
 choose P true x y f g = f refl
 choose P false x y f g = g refl
 
@@ -90,7 +90,7 @@ data ReadShaped : Read → Type 0 where
   no_token : ReadShaped Read.no_token
   token : {t : Token} {rest : List ℕ} → TokenShaped t → ReadShaped (Read.token t rest)
 
-either : (t : Bool) (x y : Read) → ReadShaped x → ReadShaped y → ReadShaped (if t then x else y)
+either : (t : Bool) (x y : Read) → ReadShaped x → ReadShaped y → ReadShaped (when t then x else y)
 either t x y a b = choose ReadShaped t x y (λ e. a) (λ e. b)
 
 mark_shaped : (b : ℕ) (bs : List ℕ) → ReadShaped (read_mark b bs)
@@ -104,7 +104,7 @@ mark_shaped b bs =
     (e (is "/" b) _ _ s (e (is "<" b) _ _ s (e (is "#" b) _ _ s (e (is ";" b) _ _ s (e (is "," b) _ _ s (e (is "[" b) _ _ s
     (e (is "]" b) _ _ s (e (is "{" b) _ _ s (e (is "}" b) _ _ s ReadShaped.no_token))))))))))))))))))
   where
-    e : (t : Bool) (x y : Read) → ReadShaped x → ReadShaped y → ReadShaped (if t then x else y)
+    e : (t : Bool) (x y : Read) → ReadShaped x → ReadShaped y → ReadShaped (when t then x else y)
     e = either
 
     s : {f : Fixed} {rest : List ℕ} → ReadShaped (Read.token (Token.fixed f) rest)
@@ -119,7 +119,7 @@ word_shaped w h =
     (e (same w (bytes "show")) _ _ TokenShaped.fixed
     (e (same w (bytes "jump")) _ _ TokenShaped.fixed (e (same w (bytes "ifeq")) _ _ TokenShaped.fixed (TokenShaped.name h))))))
   where
-    e : (t : Bool) (x y : Token) → TokenShaped x → TokenShaped y → TokenShaped (if t then x else y)
+    e : (t : Bool) (x y : Token) → TokenShaped x → TokenShaped y → TokenShaped (when t then x else y)
     e t x y a b = choose TokenShaped t x y (λ q. a) (λ q. b)
 
 name_shaped : (b : ℕ) (bs rest : List ℕ) → letter class b ≡ true → ReadShaped (read_name (while (name_byte class) (b ∷ bs)) rest)

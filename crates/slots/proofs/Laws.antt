@@ -8,7 +8,7 @@ use native.Mathlib.Omega.{arith}
 use lib.Dec.{eqb, ltb}
 use lib.ListN.{length}
 use borrow.Author.Tests.{eq-eqb, ne_eqb, lt-ltb, le-ltb, eqb-true, eqb-false, ltb-true, ltb-false}
-use Rattle.framed.specs.Common.{if◌then◌else◌, any, same}
+use Rattle.framed.specs.Common.{when◌then◌else◌, any, same}
 use Rattle.framed.specs.Bytes.{class}
 use Rattle.framed.specs.Tokens.{Token, tokens, prepend}
 use Rattle.framed.specs.Symbols.{symbols}
@@ -210,7 +210,7 @@ module _ (s : List ℕ) (from : ℕ) (b e : List ℕ) (n d l at : ℕ) (i : Coll
                   by true x = sym (lt-ltb 16 (n + 1) (omega (arith, ltb-true 15 n x)))
                   by false x = sym (le-ltb 16 (n + 1) (omega (arith, ltb-false 15 n x)))
 
-              go : (u : Bool) → slot ≡ u → b' ≡ (if u then set_word b n a else b) → e' ≡ (if u then set_word e n p else e) → n' ≡ (if u then n + 1 else n) → After
+              go : (u : Bool) → slot ≡ u → b' ≡ (when u then set_word b n a else b) → e' ≡ (when u then set_word e n p else e) → n' ≡ (when u then n + 1 else n) → After
               go true x eb ee en = record {
                 begins_size = rw eb (set_size b n a ∙ i.begins_size);
                 ends_size = rw ee (set_size e n p ∙ i.ends_size);
@@ -271,7 +271,7 @@ pub clear_again : (s : List ℕ) (from p at : ℕ) → Clear s from p → (r : T
 unfolding clear_after
 clear_again s from p at c r found k a e w h q is = go (eqb p at) refl (eqb k 12) refl is
   where
-    go : (t : Bool) → eqb p at ≡ t → (u : Bool) → eqb k 12 ≡ u → q ≡ (if t then (if u then p else e) else p) → Clear s from q
+    go : (t : Bool) → eqb p at ≡ t → (u : Bool) → eqb k 12 ≡ u → q ≡ (when t then (when u then p else e) else p) → Clear s from q
     go false et u eu is = rw is c
     go true et true eu is = rw is c
     go true et false eu is =

@@ -7,7 +7,7 @@ use native.Mathlib.Omega.{arith}
 use lib.Dec.{eqb}
 use lib.IntN.{ℤ}
 use borrow.Author.Tests.{eq-eqb, ne_eqb, eqb-true, eqb-false}
-use Rattle.framed.specs.Common.{if◌then◌else◌, any, same}
+use Rattle.framed.specs.Common.{when◌then◌else◌, any, same}
 use Rattle.framed.specs.Tokens.{Token, Fixed}
 use Rattle.framed.proofs.Lists.{same_self, same_equal}
 use Rattle.sweep.proofs.Lists.{or_true, any_both, any_last}
@@ -85,7 +85,7 @@ module _ (test : List ℕ → Bool) where
   kept table [] e = e
   kept table (Token.name w ∷ ts) e = go (any (same w) table) (kept table ts e) (kept (table ++ (w ∷ [])) ts (any_before test table (w ∷ []) e))
     where
-      go : (t : Bool) → any test (names_after table ts) ≡ true → any test (names_after (table ++ (w ∷ [])) ts) ≡ true → any test (names_after (if t then table else table ++ (w ∷ [])) ts) ≡ true
+      go : (t : Bool) → any test (names_after table ts) ≡ true → any test (names_after (table ++ (w ∷ [])) ts) ≡ true → any test (names_after (when t then table else table ++ (w ∷ [])) ts) ≡ true
       go true a b = a
       go false a b = b
   kept table (Token.integer z ∷ ts) e = kept table ts e
@@ -98,7 +98,7 @@ unfolding names_after
 all_known table [] = nothing
 all_known table (Token.name w ∷ ts) = go (any (same w) table) refl (all_known table ts) (all_known (table ++ (w ∷ [])) ts)
   where
-    go : (t : Bool) → any (same w) table ≡ t → Known (names_after table ts) ts → Known (names_after (table ++ (w ∷ [])) ts) ts → Known (names_after (if t then table else table ++ (w ∷ [])) ts) (Token.name w ∷ ts)
+    go : (t : Bool) → any (same w) table ≡ t → Known (names_after table ts) ts → Known (names_after (table ++ (w ∷ [])) ts) ts → Known (names_after (when t then table else table ++ (w ∷ [])) ts) (Token.name w ∷ ts)
     go true e a b = name (kept (same w) table ts e) a
     go false e a b = name (kept (same w) (table ++ (w ∷ [])) ts (any_added (same w) table w (same_self w))) b
 all_known table (Token.integer z ∷ ts) = integer (all_known table ts)

@@ -6,7 +6,7 @@ use Prim.Native.Nat.{ℕ, suc, ◌≤◌}
 use native.Mathlib.Omega.{arith}
 use lib.Dec.{eqb}
 use borrow.Author.Tests.{ne_eqb}
-use Rattle.framed.specs.Common.{if◌then◌else◌, any, same}
+use Rattle.framed.specs.Common.{when◌then◌else◌, any, same}
 use Rattle.framed.specs.Tokens.{Token, Fixed}
 use Rattle.framed.specs.Symbols.{Symbol, number_in, numbered}
 use Rattle.token.specs.Reading.{fixed_kind, token_kind}
@@ -38,18 +38,18 @@ module _ (table : List (List ℕ)) where
     where
       go : (t : Bool)
           → Pairs table (own_slots token_kind (depth_after d (fixed_kind f)) (fixed_kind f) ts) (own_slots kind_of (depth_after d (fixed_kind f)) (fixed_kind f) us)
-          → Pairs table (if t then [] else own_slots token_kind (depth_after d (fixed_kind f)) (fixed_kind f) ts) (if t then [] else own_slots kind_of (depth_after d (fixed_kind f)) (fixed_kind f) us)
+          → Pairs table (when t then [] else own_slots token_kind (depth_after d (fixed_kind f)) (fixed_kind f) ts) (when t then [] else own_slots kind_of (depth_after d (fixed_kind f)) (fixed_kind f) us)
       go true q = Pairs.none
       go false q = q
 
   pub pairs : (d l k c : ℕ) {ts : List Token} → Known table ts → Pairs table (own_slots token_kind d l ts) (own_slots kind_of d l (numbered table k c ts))
   unfolding own_slots numbered kind_of token_kind closes names_slot depth_after
   pairs d l k c Known.nothing = Pairs.none
-  pairs d l k c (Known.name {w} {ts} e n) = go (if eqb l 7 then false else eqb d 0) (pairs d 25 k c n)
+  pairs d l k c (Known.name {w} {ts} e n) = go (when eqb l 7 then false else eqb d 0) (pairs d 25 k c n)
     where
       go : (t : Bool) → Pairs table (own_slots token_kind d 25 ts) (own_slots kind_of d 25 (numbered table k c ts))
-          → Pairs table (if t then own (Token.name w) ts ∷ own_slots token_kind d 25 ts else own_slots token_kind d 25 ts)
-          (if t then own (Symbol.name (number_in table w)) (numbered table k c ts) ∷ own_slots kind_of d 25 (numbered table k c ts) else own_slots kind_of d 25 (numbered table k c ts))
+          → Pairs table (when t then own (Token.name w) ts ∷ own_slots token_kind d 25 ts else own_slots token_kind d 25 ts)
+          (when t then own (Symbol.name (number_in table w)) (numbered table k c ts) ∷ own_slots kind_of d 25 (numbered table k c ts) else own_slots kind_of d 25 (numbered table k c ts))
       go true q = Pairs.more k c e n q
       go false q = q
   pairs d l k c (Known.integer n) = pairs d 26 k c n

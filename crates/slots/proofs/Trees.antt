@@ -7,7 +7,7 @@ use native.Mathlib.Omega.{arith}
 use lib.Dec.{eqb}
 use lib.IntN.{ℤ}
 use borrow.Author.Tests.{ne_eqb}
-use Rattle.framed.specs.Common.{if◌then◌else◌}
+use Rattle.framed.specs.Common.{when◌then◌else◌}
 use Rattle.framed.specs.Tokens.{Fixed, Operator}
 use Rattle.framed.specs.Symbols.{Symbol}
 use Rattle.framed.specs.Tree.{Written, Base, Expression, Slots, Instruction, Code, ◌then◌}
@@ -54,7 +54,7 @@ module _ (d l : ℕ) (us : List Symbol) where
   unfolding kind_of fixed_kind operator_kind closes names_slot depth_after
   o_name n e = pass d l (Symbol.name n) us 25 d refl refl (inner (eqb l 7)) refl
     where
-      inner : (t : Bool) → (if t then false else eqb d 0) ≡ false
+      inner : (t : Bool) → (when t then false else eqb d 0) ≡ false
       inner true = refl
       inner false = e
 

@@ -2,7 +2,7 @@
 -- dot, is a slot's; brackets inside it are counted. For tokens and for symbols alike, by their kinds. Assumes nothing.
 use Rattle.std.specs.Prelude.{◌≡◌, Bool, true, false, not, ◌&&◌, ◌||◌, List, [], ◌∷◌, ◌++◌, ℕ, ◌+◌, eqb, ltb, length}
 use Rattle.std.proofs.Math.Option.{some}
-use Rattle.framed.specs.Common.{if◌then◌else◌, any, same}
+use Rattle.framed.specs.Common.{when◌then◌else◌, any, same}
 use Rattle.framed.specs.Bytes.{class}
 use Rattle.framed.specs.Tokens.{Token, tokens}
 use Rattle.framed.specs.Symbols.{Symbol}
@@ -15,15 +15,15 @@ use Rattle.scan.specs.Scan.{depth_after}
 
 -- where d brackets are open in the frame, a token of kind k closes it
 unfoldable pub closes : ℕ → ℕ → Bool
-closes d k = if eqb k 13 then eqb d 0 else if eqb k 15 then eqb d 0 else false
+closes d k = when eqb k 13 then eqb d 0 else when eqb k 15 then eqb d 0 else false
 
 -- there a token of kind k, after one of kind l, is the name of a slot
 unfoldable pub names_slot : ℕ → ℕ → ℕ → Bool
-names_slot d l k = if eqb k 25 then (if eqb l 7 then false else eqb d 0) else false
+names_slot d l k = when eqb k 25 then (when eqb l 7 then false else eqb d 0) else false
 
 -- a token of kind k is neither a bracket nor a name
 unfoldable pub plain : ℕ → Bool
-plain k = if ltb k 12 then true else if ltb k 16 then false else not (eqb k 25)
+plain k = when ltb k 12 then true else when ltb k 16 then false else not (eqb k 25)
 
 -- a slot: its name, and what follows it
 pub data Own (T : Type 0) : Type 0 where
@@ -32,8 +32,8 @@ pub data Own (T : Type 0) : Type 0 where
 unfoldable pub own_slots : {T : Type 0} → (T → ℕ) → ℕ → ℕ → List T → List (Own T)
 own_slots kind d l [] = []
 own_slots kind d l (x ∷ xs) =
-    if closes d (kind x) then []
-    else if names_slot d l (kind x) then own x xs ∷ own_slots kind (depth_after d (kind x)) (kind x) xs
+    when closes d (kind x) then []
+    else when names_slot d l (kind x) then own x xs ∷ own_slots kind (depth_after d (kind x)) (kind x) xs
     else own_slots kind (depth_after d (kind x)) (kind x) xs
 
 unfoldable pub own_names : {T N : Type 0} → (T → N) → List (Own T) → List N
@@ -71,9 +71,9 @@ bad_frames (t ∷ ts) = (eqb (token_kind t) 12 && bad_slots [] 0 0 ts) || bad_fr
 
 -- a slot's name is kept as the next one
 pub record Added (begins ends : List ℕ) (n : ℕ) (slot : Bool) (a p : ℕ) (begins' ends' : List ℕ) (r : ℕ) : Type 0 where
-  pub begins_is : begins' ≡ (if slot then set_word begins n a else begins)
-  pub ends_is : ends' ≡ (if slot then set_word ends n p else ends)
-  pub count_is : r ≡ (if slot then n + 1 else n)
+  pub begins_is : begins' ≡ (when slot then set_word begins n a else begins)
+  pub ends_is : ends' ≡ (when slot then set_word ends n p else ends)
+  pub count_is : r ≡ (when slot then n + 1 else n)
 
 -- where there are tokens from there on, the answer is about the frame that begins with them
 pub record BadSlots (s : List ℕ) (from : ℕ) (r : Bool) : Type 0 where

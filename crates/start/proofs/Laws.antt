@@ -8,7 +8,7 @@ use native.Mathlib.Omega.{arith}
 use lib.Dec.{eqb}
 use lib.ListN.{length}
 use borrow.Author.Tests.{eq-eqb, ne_eqb}
-use Rattle.framed.specs.Common.{if◌then◌else◌, bytes, same}
+use Rattle.framed.specs.Common.{when◌then◌else◌, bytes, same}
 use Rattle.framed.specs.Bytes.{class}
 use Rattle.framed.specs.Tokens.{Token}
 use Rattle.source.specs.Positions.{part}
@@ -55,7 +55,7 @@ module _ (s : List ℕ) (at k : ℕ) (t : TokenRead) (found : TokenAt class s at
   take_none o = took_none t refl o
 
   module _ (j a p w : ℕ) (e : t ≡ TokenRead.Token j a p w) where
-    after_is : (us : List Token) → after_kind k (token_of s j a p w ∷ us) ≡ (if eqb j k then some us else none)
+    after_is : (us : List Token) → after_kind k (token_of s j a p w ∷ us) ≡ (when eqb j k then some us else none)
     unfolding after_kind
     after_is us = rw (kind_is s a p w j (spot_of t found.on e).known)
 
@@ -90,7 +90,7 @@ module _ (s : List ℕ) (k a p w : ℕ) (known : k < 29) (name : List ℕ) (d l 
     unfolding find own_slots
     step_other e = rw (kind_is s a p w k known, c, e)
 
-    step_slot : names_slot d l k ≡ true → find name d l (token_of s k a p w ∷ us) ≡ (if same name (part s a p) then some us else find name (depth_after d k) k us)
+    step_slot : names_slot d l k ≡ true → find name d l (token_of s k a p w ∷ us) ≡ (when same name (part s a p) then some us else find name (depth_after d k) k us)
     unfolding find own_slots first_slot
     step_slot e = rw (kind_is s a p w k known, c, e, name_is s k a p w (slot_name d l k e))
 
@@ -130,10 +130,10 @@ module _ (s : List ℕ) (from : ℕ) (name : List ℕ) (d l at : ℕ) (i : Findi
 
       module _ (open_still : c ≡ false) (slot : Bool) (es : slot ≡ names_slot d l k) (q : Bool) (eq : q ≡ (slot && same name (part s a p))) where
         -- what the token gives
-        step : (us : List Token) → find name d l (token_of s k a p w ∷ us) ≡ (if q then some us else find name (depth_after d k) k us)
+        step : (us : List Token) → find name d l (token_of s k a p w ∷ us) ≡ (when q then some us else find name (depth_after d k) k us)
         step us = rw eq (go slot refl)
           where
-            go : (u : Bool) → slot ≡ u → find name d l (token_of s k a p w ∷ us) ≡ (if u && same name (part s a p) then some us else find name (depth_after d k) k us)
+            go : (u : Bool) → slot ≡ u → find name d l (token_of s k a p w ∷ us) ≡ (when u && same name (part s a p) then some us else find name (depth_after d k) k us)
             go true x = step_slot s k a p w spot.known name d l us (sym ec ∙ open_still) (sym es ∙ x)
             go false x = step_other s k a p w spot.known name d l us (sym ec ∙ open_still) (sym es ∙ x)
 

@@ -7,7 +7,7 @@ use Prim.Native.Nat.{ℕ}
 use native.Mathlib.Omega.{arith}
 use lib.Dec.{eqb}
 use borrow.Author.Tests.{eq-eqb, ne_eqb}
-use Rattle.framed.specs.Common.{if◌then◌else◌, bytes, any, same}
+use Rattle.framed.specs.Common.{when◌then◌else◌, bytes, any, same}
 use Rattle.framed.specs.Tokens.{Token, Fixed, Operator}
 use Rattle.framed.specs.Symbols.{Symbol, number_in, numbered, symbols, name_table}
 use Rattle.framed.specs.Tree.{Written, Base, Expression, Slots}
@@ -112,7 +112,7 @@ module _ (table : List (List ℕ)) where
       number_test = ap (eqb (number_in table w)) (sym (name_number e)) ∙ equal_numbers table w v d
 
       go : (t : Bool) → same w v ≡ t → Valued (first_slot w os) (slot_of (number_in table w) ss)
-          → Valued (if same w v then some ts else first_slot w os) (slot_of (number_in table w) (Slots.slot m b ss))
+          → Valued (when same w v then some ts else first_slot w os) (slot_of (number_in table w) (Slots.slot m b ss))
       go true x i = rw (x, slot_here (number_in table w) m b ss (number_test ∙ x)) (both k c n h (follows e))
       go false x i = rw (x, slot_later (number_in table w) m b ss (number_test ∙ x)) i
 

@@ -2,7 +2,7 @@
 -- what it looks for, or nothing. Assumes nothing.
 use Rattle.std.specs.Prelude.{◌≡◌, Bool, false, not, List, [], ◌∷◌, ℕ, eqb}
 use Rattle.std.proofs.Math.Option.{Option, none, some}
-use Rattle.framed.specs.Common.{if◌then◌else◌, bytes, any, same}
+use Rattle.framed.specs.Common.{when◌then◌else◌, bytes, any, same}
 use Rattle.framed.specs.Bytes.{class}
 use Rattle.framed.specs.Tokens.{Token, tokens}
 use Rattle.framed.specs.Symbols.{symbols, name_table}
@@ -21,12 +21,12 @@ and_then (some ts) f = f ts
 -- after one token of kind k
 unfoldable pub after_kind : ℕ → List Token → Option (List Token)
 after_kind k [] = none
-after_kind k (t ∷ ts) = if eqb (token_kind t) k then some ts else none
+after_kind k (t ∷ ts) = when eqb (token_kind t) k then some ts else none
 
 -- after the first slot's name that is this one
 unfoldable pub first_slot : List ℕ → List (Own Token) → Option (List Token)
 first_slot w [] = none
-first_slot w (own t ts ∷ os) = if same w (bytes_of t) then some ts else first_slot w os
+first_slot w (own t ts ∷ os) = when same w (bytes_of t) then some ts else first_slot w os
 
 unfoldable pub find : List ℕ → ℕ → ℕ → List Token → Option (List Token)
 find w d l ts = first_slot w (own_slots token_kind d l ts)

@@ -6,7 +6,7 @@ use mathlib.Core.List.{List, [], ◌∷◌}
 use native.Mathlib.Omega.{arith}
 use lib.ListN.{get_elem?}
 use Rattle.framed.specs.declared.Value.{Value}
-use Rattle.framed.specs.Common.{if◌then◌else◌}
+use Rattle.framed.specs.Common.{when◌then◌else◌}
 use Rattle.framed.specs.Values.{Frame}
 use Rattle.framed.specs.Fetch.{get}
 use Rattle.framed.specs.Machine.{Result, gives, ends, ◌>>=◌, defined, frame_number}
@@ -33,7 +33,7 @@ unfolding slot_end
 slot_few none n = omega arith
 slot_few (some f) n = go (has_place f n)
   where
-    go : (b : Bool) → (if b then 0 else 35) ≤ 35
+    go : (b : Bool) → (when b then 0 else 35) ≤ 35
     go true = omega arith
     go false = omega arith
 

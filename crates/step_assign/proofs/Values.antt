@@ -14,7 +14,7 @@ use Rattle.words.specs.Words.{pick}
 use Rattle.framed.specs.declared.Value.{Value}
 use Rattle.framed.specs.Values.{Heap, truth, bit}
 use Rattle.framed.specs.Equality.{Constants}
-use Rattle.framed.specs.Common.{if◌then◌else◌}
+use Rattle.framed.specs.Common.{when◌then◌else◌}
 use Rattle.framed.specs.Tokens.{Operator, in_range}
 use Rattle.framed.specs.Machine as M
 use Rattle.framed.specs.Machine.{Result, gives, ends, integer_in, quotient, is_join, frame_literals, join_signs}
@@ -102,7 +102,7 @@ ranged_no_text : (z : ℤ) → NoText (ranged z)
 unfolding ranged
 ranged_no_text z = go (in_range z)
   where
-    go : (b : Bool) → NoText (if b then gives (number z) else ends 33)
+    go : (b : Bool) → NoText (when b then gives (number z) else ends 33)
     go true = tt
     go false = tt
 

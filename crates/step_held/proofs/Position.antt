@@ -4,7 +4,7 @@ use mathlib.Core.Path.{◌≡◌}
 use mathlib.Core.Bool.{Bool, true, false}
 use mathlib.Core.List.{List, [], ◌∷◌}
 use lib.ListN.{get_or}
-use Rattle.framed.specs.Common.{if◌then◌else◌}
+use Rattle.framed.specs.Common.{when◌then◌else◌}
 use Rattle.framed.specs.Tree.{Instruction, Code}
 use Rattle.framed.specs.Paths.{Path, from_self, from_program}
 use Rattle.framed.specs.Program.{Program}
@@ -50,7 +50,7 @@ module _ (p l : List ℕ) (w : WellFormed p l) where
       assign_remains (from_program (n ∷ ns)) r = after
 
       branch_remains : (t : Bool) (r : Result Jump) →
-          let c = if t then goes_on word_store b rest number b.self b.program b.store else commit_jump word_store q b r in
+          let c = when t then goes_on word_store b rest number b.self b.program b.store else commit_jump word_store q b r in
           remaining p c.next ≡ c.remaining
       branch_remains true r = after
       branch_remains false r = jump_remains r

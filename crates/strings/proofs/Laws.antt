@@ -10,7 +10,7 @@ use lib.Dec.{eqb}
 use lib.ListN.{length, length-append, get_or, get_or-append}
 use lib.Seq.{get_or-append_seam}
 use borrow.Author.Tests.{eq-eqb, ne_eqb, eqb-true, eqb-false}
-use Rattle.framed.specs.Common.{if◌then◌else◌}
+use Rattle.framed.specs.Common.{when◌then◌else◌}
 use Rattle.framed.specs.Bytes.{class}
 use Rattle.framed.specs.Tokens.{Token, token, tokens}
 use Rattle.framed.specs.Symbols.{literals}
@@ -128,7 +128,7 @@ module _ (s places : List ℕ) (m at : ℕ) (i : Placing s places m at) where
       pub placing_again : Placing s places' m' p
       placing_again = go (eqb k 27) refl stored.places_are stored.count_is
         where
-          go : (t : Bool) → eqb k 27 ≡ t → places' ≡ (if t then set_word places m at else places) → m' ≡ (if t then m + 1 else m) → Placing s places' m' p
+          go : (t : Bool) → eqb k 27 ≡ t → places' ≡ (when t then set_word places m at else places) → m' ≡ (when t then m + 1 else m) → Placing s places' m' p
           go true x ep em = record {
             met = i.met ++ (part s (a + 1) (p - 1) ∷ []);
             size = rw ep (set_size places m at ∙ i.size);

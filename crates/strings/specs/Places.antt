@@ -1,7 +1,7 @@
 -- Document 01, "Tokens and grammar": the string literals of a source, by the positions at which they were read. Assumes nothing.
 use Rattle.std.specs.Prelude.{◌≡◌, List, [], ℕ, ◌+◌, ◌<◌, eqb, length, get_or}
 use Rattle.std.proofs.Math.Option.{some}
-use Rattle.framed.specs.Common.{if◌then◌else◌}
+use Rattle.framed.specs.Common.{when◌then◌else◌}
 use Rattle.framed.specs.Bytes.{class}
 use Rattle.framed.specs.Tokens.{Token, token, next, tokens}
 use Rattle.framed.specs.Symbols.{literals}
@@ -13,8 +13,8 @@ pub record Counted (m : ℕ) : Type 0 where
 
 -- a token of kind k, read at `at`; where it is a string, it is number m
 pub record Stored (places : List ℕ) (m at k : ℕ) (places' : List ℕ) (r : ℕ) : Type 0 where
-  pub places_are : places' ≡ (if eqb k 27 then set_word places m at else places)
-  pub count_is : r ≡ (if eqb k 27 then m + 1 else m)
+  pub places_are : places' ≡ (when eqb k 27 then set_word places m at else places)
+  pub count_is : r ≡ (when eqb k 27 then m + 1 else m)
 
 -- the token at a position is a string of the bytes w
 pub record StringAt (s : List ℕ) (at : ℕ) (w : List ℕ) : Type 0 where

@@ -8,7 +8,7 @@ use lib.Dec.{eqb, ltb}
 use lib.ListN.{length, take, length-append}
 use lib.Seq.{length-take-le}
 use borrow.Author.Tests.{lt-ltb, le-ltb, ltb-true, ltb-false}
-use Rattle.framed.specs.Common.{if◌then◌else◌, any, count, total}
+use Rattle.framed.specs.Common.{when◌then◌else◌, any, count, total}
 use Rattle.framed.specs.Tree.{Written}
 use Rattle.framed.specs.Paths.{outside_code, in_code, holder, names_up, above_program, names_of, resolve_path}
 use Rattle.framed.specs.Meaning.{Kind, expression, instruction, string, code, kind_number, Piece, frame, path, operator, one, outside, is_one, misplaced, path_names, too_far_up, frame_outside}
@@ -17,12 +17,12 @@ use Rattle.sums.proofs.Trees.{out, out_none, first_up, further_up, ups_weight, n
 
 -- ---- Totals, counts and tests
 
-counted : (test : Piece → Bool) (weight : Piece → ℕ) → ((p : Piece) → weight p ≡ (if test p then 1 else 0)) → (ps : List Piece) → total weight ps ≡ count test ps
+counted : (test : Piece → Bool) (weight : Piece → ℕ) → ((p : Piece) → weight p ≡ (when test p then 1 else 0)) → (ps : List Piece) → total weight ps ≡ count test ps
 unfolding total count
 counted test weight h [] = refl
 counted test weight h (p ∷ ps) = rw (h p) (go (test p) (counted test weight h ps))
   where
-    go : (t : Bool) → total weight ps ≡ count test ps → ◌≡◌ {A = ℕ} ((if t then 1 else 0) + total weight ps) (elim t [ true ↦ suc (count test ps) | false ↦ count test ps ])
+    go : (t : Bool) → total weight ps ≡ count test ps → ◌≡◌ {A = ℕ} ((when t then 1 else 0) + total weight ps) (elim t [ true ↦ suc (count test ps) | false ↦ count test ps ])
     go true e = omega arith
     go false e = omega arith
 
@@ -59,7 +59,7 @@ module _ (what : ℕ) (no_mark : one_if what 5 ≡ 0) where
   ups_none e g o q f zero = refl
   ups_none e g o q f (suc k) = rw (no_mark, e, g) (omega (arith, ups_none e g o q (f + 1) k, out_none o, either (ltb f (q - 1))))
     where
-      either : (t : Bool) → ◌≡◌ {A = ℕ} (if t then 0 else 0) 0
+      either : (t : Bool) → ◌≡◌ {A = ℕ} (when t then 0 else 0) 0
       either true = refl
       either false = refl
 
@@ -78,7 +78,7 @@ unfolding ups_weight further_up up_weight one_if out
 five_ups q f zero = refl
 five_ups q f (suc k) = omega (arith, five_ups q (f + 1) k, either (ltb f (q - 1)))
   where
-    either : (t : Bool) → ◌≡◌ {A = ℕ} (if t then 0 else 0) 0
+    either : (t : Bool) → ◌≡◌ {A = ℕ} (when t then 0 else 0) 0
     either true = refl
     either false = refl
 
@@ -90,9 +90,9 @@ in_code_none q (Written.up k ns) = omega (arith, five_names ns, five_ups q 0 k)
 
 -- ---- 0 to 3: expressions, instructions, strings, codes
 
-module _ (what : ℕ) (k : Kind) (same : (j : Kind) → kind_weight what j ≡ (if eqb (kind_number k) (kind_number j) then 1 else 0))
+module _ (what : ℕ) (k : Kind) (same : (j : Kind) → kind_weight what j ≡ (when eqb (kind_number k) (kind_number j) then 1 else 0))
     (a : one_if what 4 ≡ 0) (b : one_if what 5 ≡ 0) (c : one_if what 6 ≡ 0) (d : one_if what 7 ≡ 0) (e : one_if what 8 ≡ 0) (f : eqb what 6 ≡ false) where
-  one_piece : (p : Piece) → piece_weight what p ≡ (if is_one k p then 1 else 0)
+  one_piece : (p : Piece) → piece_weight what p ≡ (when is_one k p then 1 else 0)
   unfolding piece_weight is_one
   one_piece (frame p ns) = rw a (out_none (outside p))
   one_piece (path p w) = path_none what b c d e f (outside p) _ w
@@ -106,7 +106,7 @@ pub expressions : (ps : List Piece) → total (piece_weight 0) ps ≡ count (is_
 unfolding one_if kind_weight kind_number
 expressions = kind_count 0 expression same refl refl refl refl refl refl
   where
-    same : (j : Kind) → kind_weight 0 j ≡ (if eqb 0 (kind_number j) then 1 else 0)
+    same : (j : Kind) → kind_weight 0 j ≡ (when eqb 0 (kind_number j) then 1 else 0)
     same expression = refl
     same instruction = refl
     same string = refl
@@ -116,7 +116,7 @@ pub instructions : (ps : List Piece) → total (piece_weight 1) ps ≡ count (is
 unfolding one_if kind_weight kind_number
 instructions = kind_count 1 instruction same refl refl refl refl refl refl
   where
-    same : (j : Kind) → kind_weight 1 j ≡ (if eqb 1 (kind_number j) then 1 else 0)
+    same : (j : Kind) → kind_weight 1 j ≡ (when eqb 1 (kind_number j) then 1 else 0)
     same expression = refl
     same instruction = refl
     same string = refl
@@ -126,7 +126,7 @@ pub strings : (ps : List Piece) → total (piece_weight 2) ps ≡ count (is_one 
 unfolding one_if kind_weight kind_number
 strings = kind_count 2 string same refl refl refl refl refl refl
   where
-    same : (j : Kind) → kind_weight 2 j ≡ (if eqb 2 (kind_number j) then 1 else 0)
+    same : (j : Kind) → kind_weight 2 j ≡ (when eqb 2 (kind_number j) then 1 else 0)
     same expression = refl
     same instruction = refl
     same string = refl
@@ -136,7 +136,7 @@ pub codes : (ps : List Piece) → total (piece_weight 3) ps ≡ count (is_one co
 unfolding one_if kind_weight kind_number
 codes = kind_count 3 code same refl refl refl refl refl refl
   where
-    same : (j : Kind) → kind_weight 3 j ≡ (if eqb 3 (kind_number j) then 1 else 0)
+    same : (j : Kind) → kind_weight 3 j ≡ (when eqb 3 (kind_number j) then 1 else 0)
     same expression = refl
     same instruction = refl
     same string = refl
@@ -148,7 +148,7 @@ pub frames : (ps : List Piece) → total (piece_weight 4) ps ≡ count frame_out
 unfolding piece_weight frame_outside one_if kind_weight outside out
 frames = counted frame_outside (piece_weight 4) each
   where
-    each : (p : Piece) → piece_weight 4 p ≡ (if frame_outside p then 1 else 0)
+    each : (p : Piece) → piece_weight 4 p ≡ (when frame_outside p then 1 else 0)
     each (frame (outside_code ns) ms) = refl
     each (frame (in_code ns) ms) = refl
     each (path p w) = path_none 4 refl refl refl refl refl (outside p) _ w

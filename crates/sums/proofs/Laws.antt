@@ -8,7 +8,7 @@ use lib.Dec.{eqb, ltb}
 use lib.ListN.{length}
 use borrow.Author.Rules.{rules}
 use borrow.Author.Tests.{eq-eqb, ne_eqb, lt-ltb, le-ltb}
-use Rattle.framed.specs.Common.{if◌then◌else◌}
+use Rattle.framed.specs.Common.{when◌then◌else◌}
 use Rattle.framed.specs.Bytes.{class}
 use Rattle.framed.specs.Tokens.{Token}
 use Rattle.source.specs.Positions.{rest}
@@ -37,7 +37,7 @@ module _ (a b : ℕ) where
   unfolding one_if
   one_small = go (eqb a b)
     where
-      go : (t : Bool) → (if t then 1 else 0) ≤ 1
+      go : (t : Bool) → (when t then 1 else 0) ≤ 1
       go true = omega arith
       go false = omega arith
 
@@ -96,7 +96,7 @@ placed : (what c k o : ℕ) → o ≡ one_if c 0 → placed_weight what c k ≡ 
 unfolding placed_weight one_if
 placed what c k o e = rw e (go (eqb c 0) (mark_weight what k))
   where
-    go : (t : Bool) (n : ℕ) → (if t then n else 0) ≡ (if t then 1 else 0) * n
+    go : (t : Bool) (n : ℕ) → (when t then n else 0) ≡ (when t then 1 else 0) * n
     go true n = omega arith
     go false n = omega arith
 
@@ -104,7 +104,7 @@ opened_is : (c q o : ℕ) → o ≡ one_if c 0 → q + o ≡ opened c q
 unfolding opened one_if
 opened_is c q o e = rw e (go (eqb c 0))
   where
-    go : (t : Bool) → q + (if t then 1 else 0) ≡ (if t then q + 1 else q)
+    go : (t : Bool) → q + (when t then 1 else 0) ≡ (when t then q + 1 else q)
     go true = omega arith
     go false = omega arith
 
@@ -130,7 +130,7 @@ marks : (c k o : ℕ) → o ≡ one_if c 0 → Nine (λ what. placed_weight what
 marks c k o e = nine _ _ (λ what. placed what c k o e)
 
 module _ (what q f l : ℕ) where
-  up_first : (l ≡ 7 → ⊥) → up_weight what q f l ≡ (if eqb what 6 then q - 1 else 0)
+  up_first : (l ≡ 7 → ⊥) → up_weight what q f l ≡ (when eqb what 6 then q - 1 else 0)
   unfolding up_weight
   up_first n = rw (ne_eqb l 7 n)
 
@@ -146,7 +146,7 @@ module _ (what q f l : ℕ) where
   unfolding up_weight
   up_none a b c = rw (a, b, c) (go (eqb l 7) (ltb f (q - 1)))
     where
-      go : (t u : Bool) → ◌≡◌ {A = ℕ} (if t then (if u then 0 else 0) else 0) 0
+      go : (t u : Bool) → ◌≡◌ {A = ℕ} (when t then (when u then 0 else 0) else 0) 0
       go true true = refl
       go true false = refl
       go false u = refl
@@ -171,7 +171,7 @@ module _ (t : Tally) (l levels : ℕ) (is : levels ≡ t.square - 1) where
 
   pub climb_first : (l ≡ 7 → ⊥) → Climbs t l (with_further (with_names t (t.names + levels)) 0)
   climb_first n =
-      let u : weights (λ what. if eqb what 6 then t.square - 1 else 0) = nine _ _ (λ what. up_first what t.square t.further l n) in
+      let u : weights (λ what. when eqb what 6 then t.square - 1 else 0) = nine _ _ (λ what. up_first what t.square t.further l n) in
       let f = further_first l t.further n in
       search rules
 
@@ -273,12 +273,12 @@ module _ (t : Tally) (l k : ℕ) where
 
   -- a kind that is none of those: an operator counts, any other adds nothing
   module _ (n1 : k ≡ 1 → ⊥) (n2 : k ≡ 2 → ⊥) (n3 : k ≡ 3 → ⊥) (n4 : k ≡ 4 → ⊥) (n6 : k ≡ 6 → ⊥) (n8 : k ≡ 8 → ⊥) (n9 : k ≡ 9 → ⊥) (n10 : k ≡ 10 → ⊥) (n12 : k ≡ 12 → ⊥) (n13 : k ≡ 13 → ⊥) (n14 : k ≡ 14 → ⊥) (n15 : k ≡ 15 → ⊥) (n25 : k ≡ 25 → ⊥) (n27 : k ≡ 27 → ⊥) (n28 : k ≡ 28 → ⊥) where
-    plain_bare : (what : ℕ) → plain_weight what k ≡ (if ltb k 16 then 0 else if ltb 24 k then 0 else one_if what 0 + one_if what 0)
+    plain_bare : (what : ℕ) → plain_weight what k ≡ (when ltb k 16 then 0 else when ltb 24 k then 0 else one_if what 0 + one_if what 0)
     unfolding plain_weight expression_weight
     plain_bare what =
         rw (ne_eqb k 10 n10, ne_eqb k 27 n27, ne_eqb k 28 n28, ne_eqb k 3 n3, ne_eqb k 4 n4, ne_eqb k 2 n2, ne_eqb k 6 n6, ne_eqb k 9 n9)
 
-    mark_bare : (what : ℕ) → mark_weight what k ≡ (if ltb k 16 then 0 else if ltb 24 k then 0 else one_if what 5)
+    mark_bare : (what : ℕ) → mark_weight what k ≡ (when ltb k 16 then 0 else when ltb 24 k then 0 else one_if what 5)
     unfolding mark_weight
     mark_bare what = rw (ne_eqb k 12 n12, ne_eqb k 1 n1, ne_eqb k 8 n8, ne_eqb k 9 n9)
 
@@ -300,11 +300,11 @@ module _ (t : Tally) (l k : ℕ) where
 
     bare : (u v : Bool) (o : ℕ) → o ≡ one_if t.curly 0 → ltb k 16 ≡ u → ltb 24 k ≡ v →
         Nine (λ what. weight what t.curly t.square t.further l k)
-        (λ what. if u then 0 else if v then 0 else one_if what 0 + one_if what 0 + o * one_if what 5)
+        (λ what. when u then 0 else when v then 0 else one_if what 0 + one_if what 0 + o * one_if what 5)
     unfolding weight
     bare u v o eo eu ev = nine _ _ (λ what. rw (placed what t.curly k o eo, plain_bare what, mark_bare what, path_bare what, eu, ev) (go u v _ _))
       where
-        go : (u v : Bool) (x y : ℕ) → (if u then 0 else if v then 0 else x) + o * (if u then 0 else if v then 0 else y) + 0 ≡ (if u then 0 else if v then 0 else x + o * y)
+        go : (u v : Bool) (x y : ℕ) → (when u then 0 else when v then 0 else x) + o * (when u then 0 else when v then 0 else y) + 0 ≡ (when u then 0 else when v then 0 else x + o * y)
         go true v x y = omega arith
         go false true x y = omega arith
         go false false x y = omega arith
@@ -322,7 +322,7 @@ module _ (t : Tally) (l k : ℕ) where
 
 -- ---- How large it is
 
-either : (m : ℕ) (t : Bool) (x y : ℕ) → x ≤ m → y ≤ m → (if t then x else y) ≤ m
+either : (m : ℕ) (t : Bool) (x y : ℕ) → x ≤ m → y ≤ m → (when t then x else y) ≤ m
 either m true x y a b = a
 either m false x y a b = b
 
@@ -334,7 +334,7 @@ plain_small what k =
     (e (eqb k 6) _ _ (omega (arith, one_small what 0)) (e (eqb k 9) _ _ (omega (arith, one_small what 0)) (e (ltb k 16) _ _ (omega arith)
     (e (ltb 24 k) _ _ (omega arith) (omega (arith, one_small what 0)))))))))))
   where
-    e : (t : Bool) (x y : ℕ) → x ≤ 3 → y ≤ 3 → (if t then x else y) ≤ 3
+    e : (t : Bool) (x y : ℕ) → x ≤ 3 → y ≤ 3 → (when t then x else y) ≤ 3
     e = either 3
 
 placed_small : (what c k : ℕ) → placed_weight what c k ≤ 1
@@ -343,7 +343,7 @@ placed_small what c k =
     e (eqb c 0) _ _ (e (eqb k 12) _ _ (one_small what 4) (e (eqb k 1) _ _ (one_small what 5) (e (eqb k 8) _ _ (one_small what 5) (e (eqb k 9) _ _ (one_small what 5)
     (e (ltb k 16) _ _ (omega arith) (e (ltb 24 k) _ _ (omega arith) (one_small what 5))))))) (omega arith)
   where
-    e : (t : Bool) (x y : ℕ) → x ≤ 1 → y ≤ 1 → (if t then x else y) ≤ 1
+    e : (t : Bool) (x y : ℕ) → x ≤ 1 → y ≤ 1 → (when t then x else y) ≤ 1
     e = either 1
 
 path_small : (what q f l k : ℕ) → path_weight what q f l k ≤ q + 1
@@ -352,7 +352,7 @@ path_small what q f l k =
     e (eqb k 8) _ _ (e (eqb l 7) _ _ (e (ltb f (q - 1)) _ _ (omega (arith, one_small what 7)) (omega (arith, one_small what 8))) (e (eqb what 6) _ _ (omega arith) (omega arith)))
     (e (eqb k 25) _ _ (e (eqb l 7) _ _ (omega (arith, one_small what 6)) (omega arith)) (omega arith))
   where
-    e : (t : Bool) (x y : ℕ) → x ≤ q + 1 → y ≤ q + 1 → (if t then x else y) ≤ q + 1
+    e : (t : Bool) (x y : ℕ) → x ≤ q + 1 → y ≤ q + 1 → (when t then x else y) ≤ q + 1
     e = either (q + 1)
 
 weight_small : (what c q f l k : ℕ) → weight what c q f l k ≤ q + 5

@@ -8,7 +8,7 @@ use lib.Dec.{eqb}
 use lib.IntN.{ℤ}
 use lib.ListN.{length, length-append}
 use borrow.Author.Tests.{ne_eqb}
-use Rattle.framed.specs.Common.{if◌then◌else◌, total}
+use Rattle.framed.specs.Common.{when◌then◌else◌, total}
 use Rattle.framed.specs.Tokens.{Token, Fixed, Operator}
 use Rattle.framed.specs.Symbols.{Symbol, symbols, name_table}
 use Rattle.framed.specs.Tree.{Written, Base, Expression, Slots, Instruction, Code, ◌then◌}
@@ -116,7 +116,7 @@ module _ (what : ℕ) where
   unfolding placed_weight out
   placed c k n e = go (eqb c 0)
     where
-      go : (t : Bool) → (if t then mark_weight what k else 0) ≡ out t n
+      go : (t : Bool) → (when t then mark_weight what k else 0) ≡ out t n
       go true = e
       go false = refl
 
@@ -312,7 +312,7 @@ module _ (what : ℕ) where
       back : (q : ℕ) → q + 1 - 1 ≡ q
       back q = omega arith
 
-      go : (t : Bool) → ◌≡◌ {A = ℕ} (if t then (if t then q + 1 else q) - 1 else (if t then q + 1 else q)) q
+      go : (t : Bool) → ◌≡◌ {A = ℕ} (when t then (when t then q + 1 else q) - 1 else (when t then q + 1 else q)) q
       go true = back q
       go false = refl
 

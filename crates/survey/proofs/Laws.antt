@@ -8,7 +8,7 @@ use native.Mathlib.Decide.{dec_le}
 use lib.Dec.{eqb}
 use lib.ListN.{length}
 use borrow.Author.Tests.{eq-eqb, ne_eqb, eqb-false}
-use Rattle.framed.specs.Common.{if◌then◌else◌}
+use Rattle.framed.specs.Common.{when◌then◌else◌}
 use Rattle.framed.specs.Bytes.{class}
 use Rattle.framed.specs.Tokens.{tokens}
 use Rattle.words.specs.Words.{set_word}
@@ -93,7 +93,7 @@ module _ (c s b e hints : List ℕ) (n at : ℕ) (i : Naming c s b e hints n at)
         extends : Extends s b e n b' e' n'
         named : Named s b' e' n' k a p j
 
-      after_name : k ≡ 25 → n ≤ 128 → KeptAs s b e hints n a p b' e' hints' j → NotesFrom c c' at (j + 1) → (n' : ℕ) → n' ≡ (if eqb j n then n + 1 else n) → After n'
+      after_name : k ≡ 25 → n ≤ 128 → KeptAs s b e hints n a p b' e' hints' j → NotesFrom c c' at (j + 1) → (n' : ℕ) → n' ≡ (when eqb j n then n + 1 else n) → After n'
       after_name q l kept notes n' en = record {
         naming = record {
           begins_size = ap length kept.begins_is ∙ size b n a (eqb j n) ∙ i.begins_size;
@@ -114,18 +114,18 @@ module _ (c s b e hints : List ℕ) (n at : ℕ) (i : Naming c s b e hints n at)
           here : r ≡ TokenRead.Token 25 a p w
           here = h ∙ ap (λ x. TokenRead.Token x a p w) q
 
-          size : (m : List ℕ) (y v : ℕ) (t : Bool) → length (if t then set_word m y v else m) ≡ length m
+          size : (m : List ℕ) (y v : ℕ) (t : Bool) → length (when t then set_word m y v else m) ≡ length m
           size m y v true = set_size m y v
           size m y v false = refl
 
-          counted : (t : Bool) → n' ≡ (if t then n + 1 else n) → (n ≤ n') × (n' ≤ n + 1)
+          counted : (t : Bool) → n' ≡ (when t then n + 1 else n) → (n ≤ n') × (n' ≤ n + 1)
           counted true x = (omega arith, omega arith)
           counted false x = (omega arith, omega arith)
 
           most : n' ≤ 129
           most = omega (arith, (counted (eqb j n) en).1)
 
-          inside : (t : Bool) → eqb j n ≡ t → n' ≡ (if t then n + 1 else n) → j < n'
+          inside : (t : Bool) → eqb j n ≡ t → n' ≡ (when t then n + 1 else n) → j < n'
           inside true x y = omega (arith, (kept_here kept i.begins_size i.ends_size l).0)
           inside false x y = less j n (kept_here kept i.begins_size i.ends_size l).0 (eqb-false j n x) y
             where

@@ -1,6 +1,6 @@
 -- Document 01, "Tokens and grammar" and "Limits and paths", numbers 4, 5, 8 and 9: what one pass over a source finds and keeps. Assumes nothing.
 use Rattle.std.specs.Prelude.{◌≡◌, Bool, true, false, List, ℕ, ◌+◌, ◌<◌, ◌≤◌, eqb, length}
-use Rattle.framed.specs.Common.{if◌then◌else◌}
+use Rattle.framed.specs.Common.{when◌then◌else◌}
 use Rattle.framed.specs.Bytes.{class}
 use Rattle.framed.specs.Tokens.{tokens}
 use Rattle.sweep.specs.Decides.{Decides}
@@ -15,7 +15,7 @@ use Rattle.survey.specs.declared.Findings.{Findings}
 
 -- how many names are kept after one whose number is j
 unfoldable pub count_after : ℕ → ℕ → ℕ
-count_after n j = if eqb j n then n + 1 else n
+count_after n j = when eqb j n then n + 1 else n
 
 pub record Few (n : ℕ) : Type 0 where
   pub few : n ≤ 129

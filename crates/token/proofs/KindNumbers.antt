@@ -7,7 +7,7 @@ use native.Mathlib.Omega.{arith}
 use lib.Dec.{eqb, ltb, eqb→eq}
 use lib.ListN.{get_or, get_or-map}
 use borrow.Author.Tests.{ltb-true, ltb-false, eqb-true, eqb-false}
-use Rattle.framed.specs.Common.{if◌then◌else◌}
+use Rattle.framed.specs.Common.{when◌then◌else◌}
 use Rattle.framed.specs.Tokens.{Token, Fixed}
 use Rattle.source.specs.Positions.{part}
 use Rattle.source.proofs.Table.{at}
@@ -29,8 +29,8 @@ kind_is s a p w k l = go (ltb k 25) refl (eqb k 25) refl (eqb k 26) refl (eqb k 
     last k l g d e f = omega arith
 
     go : (t : Bool) → ltb k 25 ≡ t → (u : Bool) → eqb k 25 ≡ u → (v : Bool) → eqb k 26 ≡ v → (x : Bool) → eqb k 27 ≡ x
-        → token_kind (if t then Token.fixed (fixed_of k) else if u then Token.name (part s a p) else if v then Token.integer (signed w)
-        else if x then Token.string (part s (a + 1) (p - 1)) else Token.code) ≡ k
+        → token_kind (when t then Token.fixed (fixed_of k) else when u then Token.name (part s a p) else when v then Token.integer (signed w)
+        else when x then Token.string (part s (a + 1) (p - 1)) else Token.code) ≡ k
     go true e u f v g x h = fixed_is k (ltb-true k 25 e)
     go false e true f v g x h = sym (eqb-true k 25 f)
     go false e false f true g x h = sym (eqb-true k 26 g)

@@ -9,7 +9,7 @@ use lib.IntN.{pos, neg_ℤ}
 use lib.ListN.{length}
 use lib.Signed.{mag}
 use borrow.Author.Tests.{eqb-true, eq-eqb, ne_eqb, lt-ltb, le-ltb, le-leb, lt-leb}
-use Rattle.framed.specs.Common.{Common, if◌then◌else◌, bytes, same, while, past_first}
+use Rattle.framed.specs.Common.{Common, when◌then◌else◌, bytes, same, while, past_first}
 use Rattle.framed.specs.Bytes.{Bytes, Classes, class, digit}
 use Rattle.framed.specs.Tokens.{Token, Fixed, Operator, Read, no_token, token, skip, number, word, read_name, read_integer, read_string, read_mark, two_bytes, read, next}
 use Rattle.source.specs.Positions.{rest, byte, part, At}
@@ -43,9 +43,9 @@ module _ (s : List ℕ) (a p : ℕ) where
       let w = part s a p in
       go (same w (bytes "frame")) (same w (bytes "code")) (same w (bytes "self")) (same w (bytes "show")) (same w (bytes "jump")) (same w (bytes "ifeq"))
     where
-      go : (t u v x y z : Bool) → token_of s (if t then 0 else if u then 28 else if v then 1 else if x then 2 else if y then 3 else if z then 4 else 25) a p 0
-          ≡ (if t then Token.fixed Fixed.frame else if u then Token.code else if v then Token.fixed Fixed.self else if x then Token.fixed Fixed.show
-          else if y then Token.fixed Fixed.jump else if z then Token.fixed Fixed.ifeq else Token.name (part s a p))
+      go : (t u v x y z : Bool) → token_of s (when t then 0 else when u then 28 else when v then 1 else when x then 2 else when y then 3 else when z then 4 else 25) a p 0
+          ≡ (when t then Token.fixed Fixed.frame else when u then Token.code else when v then Token.fixed Fixed.self else when x then Token.fixed Fixed.show
+          else when y then Token.fixed Fixed.jump else when z then Token.fixed Fixed.ifeq else Token.name (part s a p))
       go true u v x y z = refl
       go false true v x y z = refl
       go false false true x y z = refl
@@ -58,7 +58,7 @@ word_known : (w : List ℕ) → word_kind w < 29
 unfolding word_kind
 word_known w = go (same w (bytes "frame")) (same w (bytes "code")) (same w (bytes "self")) (same w (bytes "show")) (same w (bytes "jump")) (same w (bytes "ifeq"))
   where
-    go : (t u v x y z : Bool) → (if t then 0 else if u then 28 else if v then 1 else if x then 2 else if y then 3 else if z then 4 else 25) < 29
+    go : (t u v x y z : Bool) → (when t then 0 else when u then 28 else when v then 1 else when x then 2 else when y then 3 else when z then 4 else 25) < 29
     go true u v x y z = omega arith
     go false true v x y z = omega arith
     go false false true x y z = omega arith
@@ -126,7 +126,7 @@ mag_neg zero h = absurd (none h)
     none h = omega arith
 mag_neg (suc x) h = omega arith
 
-negated : (rs : List ℕ) (x : ℕ) → x ≤ 2147483648 → (x ≡ 0 → ⊥) → (if ltb (mag (neg_ℤ (pos x))) 2147483648 then token (Token.integer (neg_ℤ (pos x))) rs else no_token)
+negated : (rs : List ℕ) (x : ℕ) → x ≤ 2147483648 → (x ≡ 0 → ⊥) → (when ltb (mag (neg_ℤ (pos x))) 2147483648 then token (Token.integer (neg_ℤ (pos x))) rs else no_token)
     ≡ token (Token.integer (signed (4294967296 - x))) rs
 unfolding signed
 negated rs zero l h = absurd (h refl)
@@ -185,7 +185,7 @@ module _ (c : Classes) (s : List ℕ) (at j : ℕ) (a : At s at) (r : RunEnds c 
       on = refused;
     }
       where
-        neither : (t : Bool) → (if t && false then token (Token.string (while (run_test c 0) (rest s (at + 1)))) (past_first (rest s j)) else no_token) ≡ no_token
+        neither : (t : Bool) → (when t && false then token (Token.string (while (run_test c 0) (rest s (at + 1)))) (past_first (rest s j)) else no_token) ≡ no_token
         neither true = refl
         neither false = refl
 
@@ -219,14 +219,14 @@ module _ (s : List ℕ) (at second k d : ℕ) (ok : TwoOk s at second k) (is : d
 
 -- `framed`'s two bytes are the two bytes at the position
 two_is : (s : List ℕ) (at second : ℕ) (f : Fixed) (otherwise : Read) → 0 < second →
-    two_bytes (eqb (byte s (at + 1)) second) f (rest s (at + 1)) otherwise ≡ (if eqb (byte s (at + 1)) second then token (Token.fixed f) (rest s (at + 2)) else otherwise)
+    two_bytes (eqb (byte s (at + 1)) second) f (rest s (at + 1)) otherwise ≡ (when eqb (byte s (at + 1)) second then token (Token.fixed f) (rest s (at + 2)) else otherwise)
 unfolding two_bytes
 two_is s at second f otherwise h = go (eqb (byte s (at + 1)) second) refl
   where
     two : (n : ℕ) → n + 1 + 1 ≡ n + 2
     two n = omega arith
 
-    go : (t : Bool) → eqb (byte s (at + 1)) second ≡ t → (if t then token (Token.fixed f) (past_first (rest s (at + 1))) else otherwise) ≡ (if t then token (Token.fixed f) (rest s (at + 2)) else otherwise)
+    go : (t : Bool) → eqb (byte s (at + 1)) second ≡ t → (when t then token (Token.fixed f) (past_first (rest s (at + 1))) else otherwise) ≡ (when t then token (Token.fixed f) (rest s (at + 2)) else otherwise)
     go true e =
         let v = eqb-true (byte s (at + 1)) second e in
         let l : at + 1 < length s = before_end s (at + 1) (omega arith) in
@@ -264,9 +264,9 @@ module _ (s : List ℕ) (at b : ℕ) (is : b ≡ byte s at) (a : At s at) where
 
 -- a choice of kinds is a choice of readings
 abbrev kind_read : List ℕ → ℕ → Read
-kind_read rs k = if ltb k 25 then token (Token.fixed (fixed_of k)) rs else no_token
+kind_read rs k = when ltb k 25 then token (Token.fixed (fixed_of k)) rs else no_token
 
-choose : (rs : List ℕ) (t : Bool) (j k : ℕ) (x : Read) → kind_read rs k ≡ x → kind_read rs (if t then j else k) ≡ (if t then kind_read rs j else x)
+choose : (rs : List ℕ) (t : Bool) (j k : ℕ) (x : Read) → kind_read rs k ≡ x → kind_read rs (when t then j else k) ≡ (when t then kind_read rs j else x)
 choose rs true j k x e = refl
 choose rs false j k x e = e
 
@@ -278,7 +278,7 @@ mark_reads b rs n o q u =
     (c (eqb b 60) 20 _ _ (c (eqb b 35) 21 _ _ (c (eqb b 59) 10 _ _ (c (eqb b 44) 11 _ _ (c (eqb b 91) 12 _ _ (c (eqb b 93) 13 _ _ (c (eqb b 123) 14 _ _
     (c (eqb b 125) 15 29 _ refl)))))))))))))))
   where
-    c : (t : Bool) (j k : ℕ) (x : Read) → kind_read rs k ≡ x → kind_read rs (if t then j else k) ≡ (if t then kind_read rs j else x)
+    c : (t : Bool) (j k : ℕ) (x : Read) → kind_read rs k ≡ x → kind_read rs (when t then j else k) ≡ (when t then kind_read rs j else x)
     c = choose rs
 
 -- a kind of a mark is an operator or a fixed token, or 29
@@ -292,7 +292,7 @@ mark_known b =
     none : 29 ≤ 28 → ⊥
     none l = omega arith
 
-    c : (t : Bool) (j k : ℕ) → j < 25 → (k ≤ 28 → k < 25) → (if t then j else k) ≤ 28 → (if t then j else k) < 25
+    c : (t : Bool) (j k : ℕ) → j < 25 → (k ≤ 28 → k < 25) → (when t then j else k) ≤ 28 → (when t then j else k) < 25
     c true j k l f h = l
     c false j k l f h = f h
 

@@ -8,7 +8,7 @@ use lib.Dec.{eqb, ltb}
 use lib.IntN.{ℤ, pos, negsuc}
 use lib.ListN.{length}
 use borrow.Author.Tests.{eqb-true, eqb-false}
-use Rattle.framed.specs.Common.{if◌then◌else◌}
+use Rattle.framed.specs.Common.{when◌then◌else◌}
 use Rattle.framed.specs.Tokens.{Token, end, no_token, token}
 use Rattle.framed.proofs.TokensExact.{end≢token, no_token≢token, rest_inj}
 use Rattle.source.specs.Positions.{rest}
@@ -42,7 +42,7 @@ signed_inj x y l k = go (ltb x 2147483648) refl (ltb y 2147483648) refl
     minus x y l k e = omega arith
 
     go : (t : Bool) → ltb x 2147483648 ≡ t → (u : Bool) → ltb y 2147483648 ≡ u
-        → ◌≡◌ {A = ℤ} (if t then pos x else negsuc (4294967295 - x)) (if u then pos y else negsuc (4294967295 - y)) → x ≡ y
+        → ◌≡◌ {A = ℤ} (when t then pos x else negsuc (4294967295 - x)) (when u then pos y else negsuc (4294967295 - y)) → x ≡ y
     go true e true f g = cc
     go true e false f g = absurd (let z : ◌≡◌ {A = ℕ} 0 1 = cc in omega arith)
     go false e true f g = absurd (let z : ◌≡◌ {A = ℕ} 0 1 = cc in omega arith)

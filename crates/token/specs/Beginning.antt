@@ -1,7 +1,7 @@
 -- Document 01, "Tokens and grammar": the token that begins at a position, for the functions that read one, and the kinds of marks.
 -- Assumes nothing.
 use Rattle.std.specs.Prelude.{◌≡◌, List, ℕ, ◌+◌, ◌<◌, ◌≤◌, eqb, pos, neg_ℤ, length}
-use Rattle.framed.specs.Common.{if◌then◌else◌, while, after}
+use Rattle.framed.specs.Common.{when◌then◌else◌, while, after}
 use Rattle.framed.specs.Bytes.{Classes, class}
 use Rattle.framed.specs.Tokens.{Token, Read, no_token, token, number, read_name, read_integer, read_string, read_mark}
 use Rattle.source.specs.Positions.{byte, rest, At}
@@ -55,21 +55,21 @@ mark_read s at = read_mark (byte s at) (rest s (at + 1))
 -- the kind of a mark of one byte; 29 where it is none
 unfoldable pub mark_kind : ℕ → ℕ
 mark_kind b =
-    if eqb b 46 then 7
-    else if eqb b 94 then 8
-    else if eqb b 33 then 9
-    else if eqb b 43 then 16
-    else if eqb b 45 then 17
-    else if eqb b 42 then 18
-    else if eqb b 47 then 19
-    else if eqb b 60 then 20
-    else if eqb b 35 then 21
-    else if eqb b 59 then 10
-    else if eqb b 44 then 11
-    else if eqb b 91 then 12
-    else if eqb b 93 then 13
-    else if eqb b 123 then 14
-    else if eqb b 125 then 15
+    when eqb b 46 then 7
+    else when eqb b 94 then 8
+    else when eqb b 33 then 9
+    else when eqb b 43 then 16
+    else when eqb b 45 then 17
+    else when eqb b 42 then 18
+    else when eqb b 47 then 19
+    else when eqb b 60 then 20
+    else when eqb b 35 then 21
+    else when eqb b 59 then 10
+    else when eqb b 44 then 11
+    else when eqb b 91 then 12
+    else when eqb b 93 then 13
+    else when eqb b 123 then 14
+    else when eqb b 125 then 15
     else 29
 
 -- a mark of two bytes: its place and its kind
@@ -79,4 +79,4 @@ pub record TwoOk (s : List ℕ) (at second k : ℕ) : Type 0 where
   pub known : k < 25
 
 unfoldable pub two_read : List ℕ → ℕ → ℕ → ℕ → Read
-two_read s at second k = if eqb (byte s (at + 1)) second then token (Token.fixed (fixed_of k)) (rest s (at + 2)) else no_token
+two_read s at second k = when eqb (byte s (at + 1)) second then token (Token.fixed (fixed_of k)) (rest s (at + 2)) else no_token

@@ -1,7 +1,7 @@
 -- Document 01, "Tokens and grammar": what the token reader's answer at a position means, as a token of `framed` and the bytes after it.
 -- For every class of bytes `c`. Assumes nothing.
 use Rattle.std.specs.Prelude.{◌≡◌, List, [], ◌∷◌, ℕ, ◌+◌, ◌-◌, ◌<◌, ◌≤◌, ℤ, pos, negsuc, eqb, ltb, length, get_or}
-use Rattle.framed.specs.Common.{if◌then◌else◌}
+use Rattle.framed.specs.Common.{when◌then◌else◌}
 use Rattle.framed.specs.Bytes.{Classes}
 use Rattle.framed.specs.Tokens.{Token, Fixed, Operator, Read, end, no_token, token, skip, next}
 use Rattle.source.specs.Positions.{rest, part}
@@ -9,7 +9,7 @@ use Rattle.token.specs.declared.TokenRead.{TokenRead}
 
 -- a 32-bit word as a signed integer
 unfoldable pub signed : ℕ → ℤ
-signed w = if ltb w 2147483648 then pos w else negsuc (4294967295 - w)
+signed w = when ltb w 2147483648 then pos w else negsuc (4294967295 - w)
 
 -- kinds: 0 to 15 fixed tokens, 16 to 24 operators, 25 name, 26 integer, 27 string, 28 `code`
 unfoldable pub fixed_list : List Fixed
@@ -65,10 +65,10 @@ token_kind (Token.fixed f) = fixed_kind f
 -- the token of kind k from a up to p, w being an integer's word; a string's bytes stand between its quotes
 unfoldable pub token_of : List ℕ → ℕ → ℕ → ℕ → ℕ → Token
 token_of s k a p w =
-    if ltb k 25 then Token.fixed (fixed_of k)
-    else if eqb k 25 then Token.name (part s a p)
-    else if eqb k 26 then Token.integer (signed w)
-    else if eqb k 27 then Token.string (part s (a + 1) (p - 1))
+    when ltb k 25 then Token.fixed (fixed_of k)
+    else when eqb k 25 then Token.name (part s a p)
+    else when eqb k 26 then Token.integer (signed w)
+    else when eqb k 27 then Token.string (part s (a + 1) (p - 1))
     else Token.code
 
 -- what an answer means

@@ -9,7 +9,7 @@ use Prim.Native.Nat.{ℕ, suc, ◌/◌, ◌%◌, ◌<◌, ◌≤◌}
 use borrow.Author.Tests.{lt-ltb, le-ltb, eq-eqb, ne_eqb, eqb-true, eqb-false, ltb-true}
 use lib.Dec.{eqb, ltb}
 use lib.ListN.{length, set, replicate, length-replicate, get_or-replicate}
-use Rattle.framed.specs.Common.{if◌then◌else◌}
+use Rattle.framed.specs.Common.{when◌then◌else◌}
 use Rattle.framed.specs.Bytes.{class}
 use Rattle.words.specs.Words.{word, set_word}
 use Rattle.words.proofs.Laws.{word_past, word_other, word_same, set_size, set_past}
@@ -35,27 +35,27 @@ unfolding packed
 word_back k a p w h = omega (arith, h.kind, h.begin, h.end, h.word_small)
 
 -- what is packed comes back: the last part as an integer's word or as a name's note
-held_back : (k a p w : ℕ) → Small k a p w → held (packed k a p w) ≡ TokenRead.Token k a p (if eqb k 26 then w else 0)
+held_back : (k a p w : ℕ) → Small k a p w → held (packed k a p w) ≡ TokenRead.Token k a p (when eqb k 26 then w else 0)
 unfolding held
 held_back k a p w h = rw (kind_back k a p w h, begin_back k a p w h, end_back k a p w h, word_back k a p w h)
 
-note_back : (k a p w : ℕ) → Small k a p w → note_of (packed k a p w) ≡ (if eqb k 25 then w else 0)
+note_back : (k a p w : ℕ) → Small k a p w → note_of (packed k a p w) ≡ (when eqb k 25 then w else 0)
 unfolding note_of
 note_back k a p w h = rw (kind_back k a p w h, word_back k a p w h)
 
 -- only an integer has a word, so no name has one
-no_word : (k w : ℕ) → ((k ≡ 26 → ⊥) → w ≡ 0) → (if eqb k 25 then w else 0) ≡ 0
+no_word : (k w : ℕ) → ((k ≡ 26 → ⊥) → w ≡ 0) → (when eqb k 25 then w else 0) ≡ 0
 no_word k w plain = go (eqb k 25) refl
   where
-    go : (t : Bool) → eqb k 25 ≡ t → (if t then w else 0) ≡ 0
+    go : (t : Bool) → eqb k 25 ≡ t → (when t then w else 0) ≡ 0
     go true h = plain (λ z. absurd (omega (arith, eqb-true k 25 h)))
     go false h = refl
 
 -- the last part of an entry, where its kind is k
-pub last_there : (e k : ℕ) → e % 32 ≡ k → e / 34359738368 % 536870912 ≡ (if eqb (e % 32) k then e / 34359738368 % 536870912 else 0)
+pub last_there : (e k : ℕ) → e % 32 ≡ k → e / 34359738368 % 536870912 ≡ (when eqb (e % 32) k then e / 34359738368 % 536870912 else 0)
 last_there e k h = rw (eq-eqb (e % 32) k h)
 
-pub last_none : (e k : ℕ) → (e % 32 ≡ k → ⊥) → 0 ≡ (if eqb (e % 32) k then e / 34359738368 % 536870912 else 0)
+pub last_none : (e k : ℕ) → (e % 32 ≡ k → ⊥) → 0 ≡ (when eqb (e % 32) k then e / 34359738368 % 536870912 else 0)
 last_none e k h = rw (ne_eqb (e % 32) k h)
 
 above : (e : ℕ) → 31 < e → unpacked e ≡ held e
@@ -121,7 +121,7 @@ pub notes_same : (c : List ℕ) (at g : ℕ) → NotesFrom c c at g
 notes_same c at g = record { from = λ j h n. inl n }
 
 -- the entry of a token
-entry_is : (k a p w : ℕ) → a < p → Small k a p w → unpacked (packed k a p w) ≡ TokenRead.Token k a p (if eqb k 26 then w else 0)
+entry_is : (k a p w : ℕ) → a < p → Small k a p w → unpacked (packed k a p w) ≡ TokenRead.Token k a p (when eqb k 26 then w else 0)
 entry_is k a p w l small = above (packed k a p w) (large k a p w l) ∙ held_back k a p w small
 
 no_integer : {x w : ℕ} → ◌≡◌ {A = ℕ} 25 26 → x ≡ w
@@ -138,30 +138,30 @@ module _ (c s : List ℕ) (at k a p w : ℕ) (h : CanStore c s at k a p w) where
 
   -- with x as the last part: an integer's is its word
   module _ (x : ℕ) (integer : k ≡ 26 → x ≡ w) where
-    last_word : (if eqb k 26 then x else 0) ≡ w
+    last_word : (when eqb k 26 then x else 0) ≡ w
     last_word = go (eqb k 26) refl
       where
-        go : (t : Bool) → eqb k 26 ≡ t → (if t then x else 0) ≡ w
+        go : (t : Bool) → eqb k 26 ≡ t → (when t then x else 0) ≡ w
         go true q = integer (eqb-true k 26 q)
         go false q = sym (h.read.plain refl (eqb-false k 26 q))
 
     record Sets (c' : List ℕ) : Type 0 where
       cached : Cached c' s
-      notes : NotesFrom c c' at (if eqb k 25 then x else 0)
+      notes : NotesFrom c c' at (when eqb k 25 then x else 0)
 
     sets : (c' : List ℕ) → c' ≡ with_entry c at k a p x → Sets c'
     unfolding with_entry set_word
     sets c' = go (ltb at 16384) (ltb p 32768) (ltb x 536870912) refl refl refl
       where
         same : c' ≡ c → Sets c'
-        same q = record { cached = rw q h.cached; notes = rw q (notes_same c at (if eqb k 25 then x else 0)) }
+        same q = record { cached = rw q h.cached; notes = rw q (notes_same c at (when eqb k 25 then x else 0)) }
 
-        go : (t u v : Bool) → ltb at 16384 ≡ t → ltb p 32768 ≡ u → ltb x 536870912 ≡ v → c' ≡ (if t && (u && v) then set_word c at (packed k a p x) else c) → Sets c'
+        go : (t u v : Bool) → ltb at 16384 ≡ t → ltb p 32768 ≡ u → ltb x 536870912 ≡ v → c' ≡ (when t && (u && v) then set_word c at (packed k a p x) else c) → Sets c'
         go true true true et eu ev q =
             let small : Small k a p x = record { kind = omega (arith, spot.known); begin = omega (arith, spot.more, ltb-true p 32768 eu); end = ltb-true p 32768 eu; word_small = ltb-true x 536870912 ev } in
             rw q (record {
               cached = kept c s at (packed k a p x) h.cached (ltb-true at 16384 et) (subst (TokenAt class s at) (sym (entry_is k a p x spot.more small ∙ ap (TokenRead.Token k a p) last_word)) h.read);
-              notes = noted c at (packed k a p x) (if eqb k 25 then x else 0) (omega (arith, h.cached.entries, ltb-true at 16384 et)) (note_back k a p x small);
+              notes = noted c at (packed k a p x) (when eqb k 25 then x else 0) (omega (arith, h.cached.entries, ltb-true at 16384 et)) (note_back k a p x small);
             })
         go true true false et eu ev q = same q
         go true false v et eu ev q = same q
@@ -214,7 +214,7 @@ unfolding note_at note_of
 fresh_unnoted = record { none = λ at. ap note_of (no_entry at) }
 
 -- the note of an entry
-pub note_there : (c : List ℕ) (at e r : ℕ) → e ≡ word c at → r ≡ (if eqb (e % 32) 25 then e / 34359738368 % 536870912 else 0) → r ≡ note_at c at
+pub note_there : (c : List ℕ) (at e r : ℕ) → e ≡ word c at → r ≡ (when eqb (e % 32) 25 then e / 34359738368 % 536870912 else 0) → r ≡ note_at c at
 unfolding note_at note_of
 note_there c at e r is er = er ∙ ap note_of is
 

@@ -3,7 +3,7 @@
 #![tactic(auto)]
 
 ghost use Rattle.std.specs.Prelude.{◌≡◌, ◌/◌, ◌%◌, eqb};
-ghost use Rattle.framed.specs.Common.{if◌then◌else◌};
+ghost use Rattle.framed.specs.Common.{when◌then◌else◌};
 ghost use Rattle.framed.specs.Bytes.{class};
 ghost use Rattle.words.specs.Words.{word, set_word};
 ghost use Rattle.token.specs.Reading.{TokenAt};
@@ -13,7 +13,7 @@ use token::TokenRead;
 
 // What an entry holds above kind, begin and end, where its kind is k, else 0.
 fn last_of(e: u64, k: u64) -> u32
-    ensures { result ≡ (if eqb (e % 32) k then e / 34359738368 % 536870912 else 0) }
+    ensures { result ≡ (when eqb (e % 32) k then e / 34359738368 % 536870912 else 0) }
 {
     if e % 32 == k {
         return (e / 34359738368 % 536870912) as u32;

@@ -10,7 +10,7 @@ use lib.Dec.{leb}
 use lib.IntN.{pos, neg_ℤ}
 use lib.ListN.{length}
 use borrow.Author.Tests.{eqb-true, leb-true}
-use Rattle.framed.specs.Common.{if◌then◌else◌, member}
+use Rattle.framed.specs.Common.{when◌then◌else◌, member}
 use Rattle.framed.specs.Bytes.{class, in_letters, in_digits, space_bytes, mark_bytes, digit}
 use Rattle.framed.specs.Tokens.{number}
 use Rattle.framed.specs.Values.{decimal}
@@ -22,7 +22,7 @@ digit_most : (b : ℕ) → digit class b ≡ true → b ≤ 57
 unfolding class
 digit_most b e = go (member b space_bytes) (in_letters b) (in_digits b) (member b mark_bytes) refl (eqb-true (class b) 3 e)
   where
-    go : (s l d m : Bool) → in_digits b ≡ d → ◌≡◌ {A = ℕ} (if s then 1 else if l then 2 else if d then 3 else if m then 4 else 0) 3 → b ≤ 57
+    go : (s l d m : Bool) → in_digits b ≡ d → ◌≡◌ {A = ℕ} (when s then 1 else when l then 2 else when d then 3 else when m then 4 else 0) 3 → b ≤ 57
     go true l d m p q = absurd (omega arith)
     go false true d m p q = absurd (omega arith)
     go false false true m p q = leb-true b 57 (both (leb 48 b) (leb b 57) p).1

@@ -6,7 +6,7 @@ use Prim.Native.Nat.{ℕ}
 use native.Mathlib.Omega.{arith}
 use lib.Dec.{eqb}
 use borrow.Author.Tests.{eqb-true, ne_eqb}
-use Rattle.framed.specs.Common.{if◌then◌else◌, starts, Common}
+use Rattle.framed.specs.Common.{when◌then◌else◌, starts, Common}
 use Rattle.framed.specs.Bytes.{Classes, class, letter, digit, name_byte, Bytes}
 use Rattle.framed.specs.Tokens.{read, next, skip}
 use Rattle.framed.proofs.Lists.{or_either}
@@ -18,13 +18,13 @@ constant_lawful = record { constant = λ b e. refl; digits = λ b e. e }
 -- the classes c, with the constant class where a byte has one
 unfoldable pub anchored : Classes → Classes
 unfolding has_constant_class Common Bytes
-anchored c b = if has_constant_class b then class b else c b
+anchored c b = when has_constant_class b then class b else c b
 
 anchored_same : (c : Classes) → Lawful c → anchored c ≡ c
 unfolding anchored
 anchored_same c l = fun_ext (λ b. go b (has_constant_class b) (l.constant b))
   where
-    go : (b : ℕ) (t : Bool) → (t ≡ true → c b ≡ class b) → (if t then class b else c b) ≡ c b
+    go : (b : ℕ) (t : Bool) → (t ≡ true → c b ≡ class b) → (when t then class b else c b) ≡ c b
     go b true f = sym (f refl)
     go b false f = refl
 

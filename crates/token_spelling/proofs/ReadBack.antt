@@ -8,7 +8,7 @@ use lib.Dec.{leb}
 use lib.IntN.{ℤ, pos, neg_ℤ}
 use lib.ListN.{length, length-append}
 use lib.Seq.{append_snoc}
-use Rattle.framed.specs.Common.{if◌then◌else◌, is, same, while, after, starts, past_first, Common}
+use Rattle.framed.specs.Common.{when◌then◌else◌, is, same, while, after, starts, past_first, Common}
 use Rattle.framed.specs.Bytes.{Classes, class, letter, digit, name_byte, string_byte}
 use Rattle.framed.specs.Tokens.{Token, Fixed, Operator, Read, skip, word, in_range, number, read_name, read_integer, read_string, two_bytes, read_mark, read, next, Tokens}
 use Rattle.framed.specs.Values.{decimal}
@@ -31,10 +31,10 @@ word_spelled w =
     (reserved (Token.fixed Fixed.self) _
     (reserved (Token.fixed Fixed.show) _ (reserved (Token.fixed Fixed.jump) _ (reserved (Token.fixed Fixed.ifeq) (Token.name w) refl)))))
   where
-    reserved : (t u : Token) → token_bytes u ≡ w → token_bytes (if same w (token_bytes t) then t else u) ≡ w
+    reserved : (t u : Token) → token_bytes u ≡ w → token_bytes (when same w (token_bytes t) then t else u) ≡ w
     reserved t u e = go (same w (token_bytes t)) refl
       where
-        go : (b : Bool) → same w (token_bytes t) ≡ b → token_bytes (if b then t else u) ≡ w
+        go : (b : Bool) → same w (token_bytes t) ≡ b → token_bytes (when b then t else u) ≡ w
         go true f = sym (same_equal w (token_bytes t) f)
         go false f = e
 
@@ -54,7 +54,7 @@ module _ (c : Classes) (l : Lawful c) where
     no_token : Again n Read.no_token
     token : {t : Token} {rest : List ℕ} → Back c t → length (token_bytes t) + length rest ≤ n → Again n (Read.token t rest)
 
-  choose : (n : ℕ) (t : Bool) (x y : Read) → (t ≡ true → Again n x) → Again n y → Again n (if t then x else y)
+  choose : (n : ℕ) (t : Bool) (x y : Read) → (t ≡ true → Again n x) → Again n y → Again n (when t then x else y)
   choose n true x y f g = f refl
   choose n false x y f g = g
 
@@ -167,7 +167,7 @@ module _ (c : Classes) (l : Lawful c) where
       (e (is "]" b) _ _ (s Fixed.close_square refl)
       (e (is "{" b) _ _ (s Fixed.open_curly refl) (e (is "}" b) _ _ (s Fixed.close_curly refl) Again.no_token))))))))))))))))))
     where
-      e : (t : Bool) (x y : Read) → Again (suc (length bs)) x → Again (suc (length bs)) y → Again (suc (length bs)) (if t then x else y)
+      e : (t : Bool) (x y : Read) → Again (suc (length bs)) x → Again (suc (length bs)) y → Again (suc (length bs)) (when t then x else y)
       e t x y a = choose _ t x y (λ q. a)
 
       s : (f : Fixed) → length (fixed_bytes f) ≡ 1 → Again (suc (length bs)) (Read.token (Token.fixed f) bs)

@@ -7,7 +7,7 @@ use Prim.Native.Nat.{ℕ, zero, suc, ◌≤◌, ◌<◌}
 use native.Mathlib.Omega.{arith}
 use lib.ListN.{length, take, length-append}
 use lib.Seq.{take-length}
-use Rattle.framed.specs.Common.{if◌then◌else◌, any, same}
+use Rattle.framed.specs.Common.{when◌then◌else◌, any, same}
 use Rattle.framed.specs.Tokens.{Token}
 use Rattle.framed.specs.Symbols.{number_in, names_after, name_table, numbered, symbols}
 use Rattle.framed.proofs.Lists.{same_self, same_equal, same_turned, not_turned}
@@ -26,7 +26,7 @@ unfolding names_after
 extends [] table = record { more = []; is = sym (append-nil table) }
 extends (Token.name w ∷ ts) table = go (any (same w) table) (λ l. extends ts l)
   where
-    go : (t : Bool) → ((l : List (List ℕ)) → Extends l (names_after l ts)) → Extends table (names_after (if t then table else table ++ (w ∷ [])) ts)
+    go : (t : Bool) → ((l : List (List ℕ)) → Extends l (names_after l ts)) → Extends table (names_after (when t then table else table ++ (w ∷ [])) ts)
     go true ih = ih table
     go false ih = let x = ih (table ++ (w ∷ [])) in record { more = w ∷ x.more; is = x.is ∙ append_assoc table (w ∷ []) x.more }
 extends (Token.integer z ∷ ts) table = extends ts table
@@ -61,7 +61,7 @@ module _ (full : List (List ℕ)) where
   in_order [] table s c e = ap length e
   in_order (Token.name w ∷ ts) table s c e = go (any (same w) table) refl e (λ l f. in_order ts l s c f)
     where
-      go : (t : Bool) → any (same w) table ≡ t → names_after (if t then table else table ++ (w ∷ [])) ts ≡ full →
+      go : (t : Bool) → any (same w) table ≡ t → names_after (when t then table else table ++ (w ∷ [])) ts ≡ full →
           ((l : List (List ℕ)) → names_after l ts ≡ full → InOrder (length l) (names_in (numbered full s c ts)) (length full)) →
           ((number_in full w < length table) × InOrder (length table) (names_in (numbered full s c ts)) (length full))
           ⊎ ((number_in full w ≡ length table) × InOrder (suc (length table)) (names_in (numbered full s c ts)) (length full))
@@ -133,11 +133,11 @@ module _ (table : List (List ℕ)) where
   table_after [] s c k k' le e = ap (λ (n : ℕ). take n table) e
   table_after (Token.name w ∷ ts) s c k k' le (inl (lt, o)) =
       let g = grows (names_in (numbered table s c ts)) k k' o in
-      ap (λ (t : Bool). names_after (if t then take k table else take k table ++ (w ∷ [])) ts) (known_there table k w lt (omega arith)) ∙ table_after ts s c k k' le o
+      ap (λ (t : Bool). names_after (when t then take k table else take k table ++ (w ∷ [])) ts) (known_there table k w lt (omega arith)) ∙ table_after ts s c k k' le o
   table_after (Token.name w ∷ ts) s c k k' le (inr (e, o)) =
       let g = grows (names_in (numbered table s c ts)) (suc k) k' o in
       let n = fresh_there table k w e (omega arith) in
-      ap (λ (t : Bool). names_after (if t then take k table else take k table ++ (w ∷ [])) ts) n.absent
+      ap (λ (t : Bool). names_after (when t then take k table else take k table ++ (w ∷ [])) ts) n.absent
       ∙ ap (λ (l : List (List ℕ)). names_after l ts) n.added
       ∙ table_after ts s c (suc k) k' le o
   table_after (Token.integer z ∷ ts) s c k k' le o = table_after ts s c k k' le o
