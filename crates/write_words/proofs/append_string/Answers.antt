@@ -10,7 +10,7 @@ append-b-requires c = search can_append
 
 pub append-requires : goal.append-requires
 append-requires c =
-    can_append (append-b-requires c κs) c.append-b.ensures
+    can_append (can_append c.requires.1 c.append-a.ensures) c.append-b.ensures
 
 pub returns : goal.returns
 returns c = search string_appended
