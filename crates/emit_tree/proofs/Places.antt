@@ -34,10 +34,10 @@ code_place place = go place.in_code
     go false = refl
 
 pub code_inside : (place : Place) → PlaceOk place → Inside (inner_code place)
-code_inside place ok = record { ok = record { deep = ok.deep; sixteen = ok.sixteen }; in-code = refl }
+code_inside place ok = record { ok = record { deep = ok.deep; sixteen = ok.sixteen }; in_code = refl }
 
 pub not_outside : (place : Place) → Inside place → place.in_code ≡ false → ⊥
-not_outside place h e = true≢false (sym h.in-code ∙ e)
+not_outside place h e = true≢false (sym h.in_code ∙ e)
 
 pub inside_fits : (place : Place) (ss : Slots Written) → Inside place → SlotsFit place ss
 inside_fits place ss h = record { room = record { ok = h.ok; deep = λ e. absurd (not_outside place h e) }; plain = λ e. absurd (not_outside place h e) }
