@@ -45,13 +45,13 @@ instructions_are p l = list_length (instruction_held p) (instructions p) 0
 
 -- ---- One level
 
-level_above : (n : ℕ) (p : List ℕ) → levels (suc n) p ≡ one_level p (levels n p)
+levels_one : (n : ℕ) (p : List ℕ) → levels (suc n) p ≡ one_level p (levels n p)
 unfolding levels
-level_above n p = refl
+levels_one n p = refl
 
 pub trees_one : (p : List ℕ) → trees p ≡ one_level p (levels 599999 p)
 unfolding trees
-trees_one p = level_above 599999 p
+trees_one p = levels_one 599999 p
 
 module _ (p l : List ℕ) (w : WellFormed p l) where
   G : Sound p

@@ -14,7 +14,11 @@ pub made_in-loop-z-smaller : goal.made_in-loop-z-smaller
 made_in-loop-z-smaller t c = search next_falls
 
 pub made_in-loop-z-preserved : goal.made_in-loop-z-preserved
-made_in-loop-z-preserved t c = elim c.if-expression_kind-gt4.branch [ made_in-then-expression_kind-gt4 w ↦ search (counted_more, w.1.ensures, w.3 ∙ w.2.ensures) | made_in-else-expression_kind-gt4 w ↦ search (counted_skip, w.0.left, w.1) ]
+made_in-loop-z-preserved t c =
+    elim c.if-expression_kind-gt4.branch [
+      | made_in-then-expression_kind-gt4 w ↦ search (counted_more, w.made_of.ensures, w.n-is ∙ w.plus-n.ensures)
+      | made_in-else-expression_kind-gt4 w ↦ search (counted_skip, w.if-expression_kind-gt4.false, w.n-is)
+    ]
 
 pub made_in-returns : goal.made_in-returns
 made_in-returns t c = search counted_all
