@@ -8,5 +8,4 @@ unfolding unpacked
 returns-in_default c = cc
 
 pub returns : goal.returns
-returns c =
-    packed_value _ _ c.known_told-1.given.0 _ c.in-Found.is _ _ c.number_of.ensures c.tag_of.ensures (search rules)
+returns c = search (rules, packed_value)
