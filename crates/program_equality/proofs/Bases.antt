@@ -1,7 +1,7 @@
 -- One law for each way through `same_base`, `same_two`, `same_three` and `same_expression`, for what each call asks and for each fall of the weight. Assumes nothing.
 use mathlib.Core.Path.{◌≡◌, refl, ◌∙◌, ap, sym}
 use mathlib.Core.Logic.{◌⊎◌, inl, inr}
-use mathlib.Core.Bool.{Bool, true, false, not, ◌&&◌, ◌||◌}
+use mathlib.Core.Bool.{Bool, true, false, ◌&&◌, ◌||◌}
 use mathlib.Core.List.{List}
 use Prim.Native.Nat.{ℕ, ◌+◌, ◌≤◌, ◌<◌}
 use native.Mathlib.Omega.{arith}
@@ -10,7 +10,7 @@ use lib.Dec.{eqb}
 use mir.Syntax.{w32}
 use mir.Val.{Fits, to_z, of_z}
 use mir.ValLaws.{of_z-to_z}
-use borrow.Author.Tests.{eq-eqb, ne_eqb, eqb-true, not-true, not-false}
+use borrow.Author.Tests.{eq-eqb, ne_eqb, eqb-true}
 use Rattle.framed.specs.Tree.{Base, Expression}
 use Rattle.framed.specs.Paths.{Path, from_self, from_program}
 use Rattle.framed.specs.Values.{same_integer}
@@ -176,40 +176,34 @@ module _ (p l : List ℕ) where
   same_pair a b c d e f = rw (e, f)
 
   module _ (a b c d : ℕ) (r : Bool) (er : r ≡ bases_agree p l a c) where
-    pub two_apart : not r ≡ true → false ≡ two_agree p l a b c d
+    pub two_apart : r ≡ false → false ≡ two_agree p l a b c d
     unfolding two_agree
-    two_apart e = rw (← er, not-true r e)
+    two_apart e = rw (← er, e)
 
-    module _ (first : not r ≡ false) where
-      yes_first : r ≡ true
-      yes_first = not-false r first
-
+    module _ (first : r ≡ true) where
       pub two_once : (eqb a b && eqb c d) ≡ true → true ≡ two_agree p l a b c d
       unfolding two_agree
       two_once e =
           let q = both (eqb a b) (eqb c d) e in
-          rw (← er, yes_first) (sym (sym (same_pair a b c d (eqb-true a b q.0) (eqb-true c d q.1)) ∙ sym er ∙ yes_first))
+          rw (← er, first) (sym (sym (same_pair a b c d (eqb-true a b q.0) (eqb-true c d q.1)) ∙ sym er ∙ first))
 
       pub two_both : (q : Bool) → q ≡ bases_agree p l b d → q ≡ two_agree p l a b c d
       unfolding two_agree
-      two_both q eq = rw (← er, yes_first) eq
+      two_both q eq = rw (← er, first) eq
 
   module _ (a b c d e f : ℕ) (r : Bool) (er : r ≡ two_agree p l a b d e) where
-    pub three_apart : not r ≡ true → false ≡ three_agree p l a b c d e f
+    pub three_apart : r ≡ false → false ≡ three_agree p l a b c d e f
     unfolding three_agree
-    three_apart n = rw (← er, not-true r n)
+    three_apart n = rw (← er, n)
 
-    module _ (first : not r ≡ false) where
-      yes_both : r ≡ true
-      yes_both = not-false r first
-
+    module _ (first : r ≡ true) where
       both_agree : (bases_agree p l a d ≡ true) × (bases_agree p l b e ≡ true)
       unfolding two_agree
-      both_agree = both (bases_agree p l a d) (bases_agree p l b e) (sym er ∙ yes_both)
+      both_agree = both (bases_agree p l a d) (bases_agree p l b e) (sym er ∙ first)
 
       pub three_once : (eqb a c && eqb d f) || (eqb b c && eqb e f) ≡ true → true ≡ three_agree p l a b c d e f
       unfolding three_agree
-      three_once h = rw (← er, yes_both) (sym (or_either (eqb a c && eqb d f) (eqb b c && eqb e f) h left middle))
+      three_once h = rw (← er, first) (sym (or_either (eqb a c && eqb d f) (eqb b c && eqb e f) h left middle))
         where
           left : eqb a c && eqb d f ≡ true → bases_agree p l c f ≡ true
           left g = let q = both (eqb a c) (eqb d f) g in sym (same_pair a c d f (eqb-true a c q.0) (eqb-true d f q.1)) ∙ both_agree.0
@@ -219,7 +213,7 @@ module _ (p l : List ℕ) where
 
       pub three_all : (q : Bool) → q ≡ bases_agree p l c f → q ≡ three_agree p l a b c d e f
       unfolding three_agree
-      three_all q eq = rw (← er, yes_both) eq
+      three_all q eq = rw (← er, first) eq
 
 -- ---- same_expression
 

@@ -1,12 +1,11 @@
 -- One law for each way through `same_instruction`, for what each call asks and for each fall of the weight. Assumes nothing.
 use mathlib.Core.Path.{◌≡◌, ◌∙◌, ap, sym}
 use mathlib.Core.Logic.{◌⊎◌, inl, inr}
-use mathlib.Core.Bool.{Bool, true, false, not, ◌&&◌, and_assoc}
+use mathlib.Core.Bool.{Bool, true, false, ◌&&◌, and_assoc}
 use mathlib.Core.List.{List}
 use Prim.Native.Nat.{ℕ, ◌+◌, ◌<◌}
 use native.Mathlib.Omega.{arith}
 use native.Mathlib.Decide.{ℕ_discrete}
-use borrow.Author.Tests.{not-true, not-false}
 use Rattle.framed.specs.Tree.{Instruction}
 use Rattle.framed.specs.Paths.{Path}
 use Rattle.framed.specs.Equality.{same_path, same_base, same_instruction}
@@ -204,8 +203,8 @@ module _ {p l : List ℕ} {i j : ℕ} (s : TwoInstructions p l i j) (k m : ℕ) 
               sym (instructions_as _ _ (tree.assign_program_held p l w i s.left a b c (left_program e)) (tree.assign_program_held p l w j s.right d f g (right_program e)))
 
           module _ (q : Bool) (eq : q ≡ names_agree p a b d f) where
-            pub assign_apart : not q ≡ true → false ≡ instructions_agree p l i j
-            assign_apart n = rw (← eq, not-true q n) at (assigns_agree assign_kind)
+            pub assign_apart : q ≡ false → false ≡ instructions_agree p l i j
+            assign_apart n = rw (← eq, n) at (assigns_agree assign_kind)
 
-            pub instruction_assigns : not q ≡ false → (r : Bool) → r ≡ expressions_agree p l c g → r ≡ instructions_agree p l i j
-            instruction_assigns y r er = er ∙ (rw (← eq, not-false q y) at (assigns_agree assign_kind))
+            pub instruction_assigns : q ≡ true → (r : Bool) → r ≡ expressions_agree p l c g → r ≡ instructions_agree p l i j
+            instruction_assigns y r er = er ∙ (rw (← eq, y) at (assigns_agree assign_kind))

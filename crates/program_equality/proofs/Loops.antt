@@ -1,13 +1,13 @@
 -- The loops of `same_list` and `same_slots`: what is left from two places on decides; and `same_codes`. Assumes nothing.
 use mathlib.Core.Path.{◌≡◌, refl, ◌∙◌, ap, sym}
-use mathlib.Core.Bool.{Bool, true, false, not, ◌&&◌}
+use mathlib.Core.Bool.{Bool, true, false, ◌&&◌}
 use mathlib.Core.List.{List}
 use Prim.Native.Nat.{ℕ, suc, ◌-◌, ◌≤◌, ◌<◌}
 use native.Mathlib.Omega.{arith}
 use native.Mathlib.Decide.{ℕ_discrete}
 use lib.Dec.{eqb}
 use lib.ListN.{get_or}
-use borrow.Author.Tests.{eq-eqb, ne_eqb, not-true, not-false}
+use borrow.Author.Tests.{eq-eqb, ne_eqb}
 use Rattle.framed.specs.Tree.{Slots, Code, ◌then◌}
 use Rattle.framed.specs.Paths.{Path}
 use Rattle.framed.specs.Equality.{same_base, same_slots, same_code}
@@ -85,15 +85,15 @@ module _ (p l : List ℕ) (from to : ℕ) where
         both_next n m en em = sym (lists_as _ _ (next_here a n s.places.left na en) (next_here b m s.places.right nb em))
 
         module _ (r : Bool) (er : r ≡ instructions_agree p l (a - 1) (b - 1)) where
-          pub lists_apart : not r ≡ true → false ≡ lists_agree p l from to
-          lists_apart e = rw (← er, not-true r e) at (both_next _ _ refl refl)
+          pub lists_apart : r ≡ false → false ≡ lists_agree p l from to
+          lists_apart e = rw (← er, e) at (both_next _ _ refl refl)
 
           module _ (n m : ℕ) (en : n ≡ instruction_after p (a - 1)) (em : m ≡ instruction_after p (b - 1)) where
             pub list_less : code_weight (remaining p n) < code_weight (remaining p a)
             unfolding base_weight
             list_less = let q = ap code_weight (next_here a n s.places.left na en) in omega arith
 
-            pub lists_again : not r ≡ false → ListsLeft n m
+            pub lists_again : r ≡ true → ListsLeft n m
             lists_again e = record {
               places = record {
                 program = w;
@@ -101,7 +101,7 @@ module _ (p l : List ℕ) (from to : ℕ) where
                 right = record { there = λ i q. (sound p l w).next_there (b - 1) i two_instructions.right (sym em ∙ q) };
               };
               fewer = let q = list_less in let f = s.fewer in omega arith;
-              rest = rw (← er, not-false r e) at (both_next n m en em);
+              rest = rw (← er, e) at (both_next n m en em);
             }
 
 -- ---- The slots from two places on
@@ -164,19 +164,19 @@ module _ (p l : List ℕ) (from to : ℕ) where
           slots_named_apart ne = rw (← ex, ← ey, ne_eqb x y ne) at (both_slots _ _ refl refl)
 
           module _ (same : x ≡ y) (r : Bool) (er : r ≡ expressions_agree p l (a - 1) (b - 1)) where
-            pub slots_apart : not r ≡ true → false ≡ slots_agree p l from to
-            slots_apart e = rw (← ex, ← ey, eq-eqb x y same, ← er, not-true r e) at (both_slots _ _ refl refl)
+            pub slots_apart : r ≡ false → false ≡ slots_agree p l from to
+            slots_apart e = rw (← ex, ← ey, eq-eqb x y same, ← er, e) at (both_slots _ _ refl refl)
 
             module _ (n m : ℕ) (en : n ≡ slot_after p (a - 1)) (em : m ≡ slot_after p (b - 1)) where
               pub slot_less : slots_weight (slots_held p n) < slots_weight (slots_held p a)
               unfolding base_weight
               slot_less = let q = ap slots_weight (slot_here a n s.places.left na en) in omega arith
 
-              pub slots_again : not r ≡ false → SlotsLeft n m
+              pub slots_again : r ≡ true → SlotsLeft n m
               slots_again e = record {
                 places = record { program = g; left = places.next_place p l g a s.places.left na n en; right = places.next_place p l g b s.places.right nb m em };
                 fewer = let q = slot_less in let f = s.fewer in omega arith;
-                rest = rw (← ex, ← ey, eq-eqb x y same, ← er, not-false r e) at (both_slots n m en em);
+                rest = rw (← ex, ← ey, eq-eqb x y same, ← er, e) at (both_slots n m en em);
               }
 
 -- ---- Two codes

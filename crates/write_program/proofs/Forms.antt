@@ -4,8 +4,6 @@ use mathlib.Core.Bool.{Bool, true, false}
 use mathlib.Core.List.{List, [], ◌∷◌, ◌++◌, append_assoc, append-nil}
 use Prim.Native.Nat.{ℕ}
 use lib.ListN.{get_or, drop}
-use types.Run.{OneOf}
-use denote.Enum.Declared.{tag_of}
 use Rattle.framed.specs.Common.{Common}
 use Rattle.framed.specs.Tokens.{Token, Fixed, Operator}
 use Rattle.framed.specs.Tree.{Base, Expression, Slots, Instruction, Code, ◌then◌}
@@ -15,7 +13,6 @@ use Rattle.framed.specs.Writer.{Writer, Word, one, mark, word_bytes, led, text, 
 use Rattle.words.specs.Words.{pick}
 use Rattle.tables.specs.declared.ExpressionEntry.{ExpressionEntry}
 use Rattle.tables.specs.Fields.{program_slots, slot_name}
-use Rattle.tables.specs.contracts.ExpressionEntry.{the_type}
 use Rattle.trees.specs.Trees.{Readers, base_tree, expression_tree, no_base}
 use Rattle.trees.specs.Held.{program_held}
 use Rattle.write_words.specs.Words.{name_table}
@@ -165,31 +162,33 @@ program_form p l =
 -- ---- Entries of other forms
 
 -- what is no base is written as 0
-pub other_base : (r : Readers) (p : List ℕ) (e : ExpressionEntry) → OneOf (5 ∷ 6 ∷ 7 ∷ 8 ∷ []) (tag_of the_type e) → base_tree r p e ≡ no_base
+pub other_base : (r : Readers) (p : List ℕ) (e : ExpressionEntry) → ((w : ℕ) → e ≡ ExpressionEntry.Integer w → ⊥) → ((n : ℕ) → e ≡ ExpressionEntry.Literal n → ⊥)
+    → ((j n : ℕ) → e ≡ ExpressionEntry.FromSelf j n → ⊥) → ((j n : ℕ) → e ≡ ExpressionEntry.FromProgram j n → ⊥) → ((n : ℕ) → e ≡ ExpressionEntry.Code n → ⊥)
+    → base_tree r p e ≡ no_base
 unfolding base_tree
-other_base r p (ExpressionEntry.Integer w) k = absurd (k w refl)
-other_base r p (ExpressionEntry.Literal n) k = absurd (k n refl)
-other_base r p (ExpressionEntry.FromSelf j n) k = absurd (k j n refl)
-other_base r p (ExpressionEntry.FromProgram j n) k = absurd (k j n refl)
-other_base r p (ExpressionEntry.Code n) k = absurd (k n refl)
-other_base r p (ExpressionEntry.Frame d) k = refl
-other_base r p (ExpressionEntry.Not a) k = refl
-other_base r p (ExpressionEntry.Operate o a b) k = refl
-other_base r p ExpressionEntry.Bad k = refl
+other_base r p (ExpressionEntry.Integer w) a b c d k = absurd (a w refl)
+other_base r p (ExpressionEntry.Literal n) a b c d k = absurd (b n refl)
+other_base r p (ExpressionEntry.FromSelf j n) a b c d k = absurd (c j n refl)
+other_base r p (ExpressionEntry.FromProgram j n) a b c d k = absurd (d j n refl)
+other_base r p (ExpressionEntry.Code n) a b c d k = absurd (k n refl)
+other_base r p (ExpressionEntry.Frame f) a b c d k = refl
+other_base r p (ExpressionEntry.Not x) a b c d k = refl
+other_base r p (ExpressionEntry.Operate o x y) a b c d k = refl
+other_base r p ExpressionEntry.Bad a b c d k = refl
 
 -- what is no frame, `!` or operation is a base
-pub other_expression : (r : Readers) (p : List ℕ) (x : ℕ) (e : ExpressionEntry) → OneOf (0 ∷ 1 ∷ 2 ∷ 3 ∷ 4 ∷ 8 ∷ []) (tag_of the_type e)
-    → expression_tree r p x e ≡ Expression.base (base_tree r p e)
+pub other_expression : (r : Readers) (p : List ℕ) (x : ℕ) (e : ExpressionEntry) → ((d : ℕ) → e ≡ ExpressionEntry.Frame d → ⊥) → ((y : ℕ) → e ≡ ExpressionEntry.Not y → ⊥)
+    → ((o y z : ℕ) → e ≡ ExpressionEntry.Operate o y z → ⊥) → expression_tree r p x e ≡ Expression.base (base_tree r p e)
 unfolding base_tree expression_tree
-other_expression r p x (ExpressionEntry.Integer w) k = refl
-other_expression r p x (ExpressionEntry.Literal n) k = refl
-other_expression r p x (ExpressionEntry.FromSelf j n) k = refl
-other_expression r p x (ExpressionEntry.FromProgram j n) k = refl
-other_expression r p x (ExpressionEntry.Code n) k = refl
-other_expression r p x (ExpressionEntry.Frame d) k = absurd (k d refl)
-other_expression r p x (ExpressionEntry.Not a) k = absurd (k a refl)
-other_expression r p x (ExpressionEntry.Operate o a b) k = absurd (k o a b refl)
-other_expression r p x ExpressionEntry.Bad k = refl
+other_expression r p x (ExpressionEntry.Integer w) a b k = refl
+other_expression r p x (ExpressionEntry.Literal n) a b k = refl
+other_expression r p x (ExpressionEntry.FromSelf j n) a b k = refl
+other_expression r p x (ExpressionEntry.FromProgram j n) a b k = refl
+other_expression r p x (ExpressionEntry.Code n) a b k = refl
+other_expression r p x (ExpressionEntry.Frame d) a b k = absurd (a d refl)
+other_expression r p x (ExpressionEntry.Not y) a b k = absurd (b y refl)
+other_expression r p x (ExpressionEntry.Operate o y z) a b k = absurd (k o y z refl)
+other_expression r p x ExpressionEntry.Bad a b k = refl
 
 -- ---- What is no frame is written outside code as it is in code
 

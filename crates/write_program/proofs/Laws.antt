@@ -7,8 +7,6 @@ use lib.IntN.{ℤ}
 use mir.Syntax.{w32}
 use mir.Val.{to_z, of_z}
 use mir.ValLaws.{to_z-of_z}
-use types.Run.{OneOf}
-use denote.Enum.Declared.{tag_of}
 use Rattle.framed.specs.Tokens.{Token}
 use Rattle.framed.specs.Tree.{Base, Expression, Instruction}
 use Rattle.framed.specs.Paths.{Place, in_code, within_code, Path, from_self, from_program}
@@ -19,7 +17,6 @@ use Rattle.tables.specs.declared.ExpressionEntry.{ExpressionEntry}
 use Rattle.tables.specs.declared.InstructionEntry.{InstructionEntry}
 use Rattle.tables.specs.Entries.{expression_at, instruction_at}
 use Rattle.tables.specs.Fields.{expressions, instructions, code_first, link}
-use Rattle.tables.specs.contracts.ExpressionEntry.{the_type}
 use Rattle.program_entries.specs.Form.{ExpressionForm, InstructionForm}
 use Rattle.program_form.specs.Sound.{SlotPlace}
 use Rattle.trees.specs.Trees.{base_tree, expression_tree, no_base, operator_of, path_list}
@@ -115,10 +112,12 @@ module _ {p l m : List ℕ} {limit at x : ℕ} (w : CanWrite p l m limit at) (lt
     unfolding program_path_text base_words
     base_program j n q = appended_as (base_as (in_code ns) _ (tree.program_path_held p l w.program x lt j n (sym is ∙ q)))
 
-    pub base_other : OneOf (5 ∷ 6 ∷ 7 ∷ 8 ∷ []) (tag_of the_type e) → Appended m limit at (32 ∷ 48 ∷ []) m₁ a → Appended m limit at (base_text p l (in_code ns) x) m₁ a
-    base_other k =
+    pub base_other : ((k : ℕ) → e ≡ ExpressionEntry.Integer k → ⊥) → ((k : ℕ) → e ≡ ExpressionEntry.Literal k → ⊥)
+        → ((j n : ℕ) → e ≡ ExpressionEntry.FromSelf j n → ⊥) → ((j n : ℕ) → e ≡ ExpressionEntry.FromProgram j n → ⊥) → ((k : ℕ) → e ≡ ExpressionEntry.Code k → ⊥)
+        → Appended m limit at (32 ∷ 48 ∷ []) m₁ a → Appended m limit at (base_text p l (in_code ns) x) m₁ a
+    base_other b c d f k =
         appended_as
-        (base_as (in_code ns) no_base ((tree.one_level_held p l w.program).base x lt ∙ ap (base_tree (held p) p) (sym is) ∙ other_base (held p) p e k)
+        (base_as (in_code ns) no_base ((tree.one_level_held p l w.program).base x lt ∙ ap (base_tree (held p) p) (sym is) ∙ other_base (held p) p e b c d f k)
         ∙ zero_form p l (in_code ns))
 
   module _ (k z : ℕ) (q : e ≡ ExpressionEntry.Code k) (here : z ≡ code_first p k) where
@@ -197,22 +196,26 @@ module _ {p l m : List ℕ} {limit at x : ℕ} (w : CanWrite p l m limit at) (lt
         (expression_as place inner _ operation_here ∙ operation_form p l place inner (operator_of o) (base_held p y) (base_held p z))
 
   -- any other is a base
-  module _ (k : OneOf (0 ∷ 1 ∷ 2 ∷ 3 ∷ 4 ∷ 8 ∷ []) (tag_of the_type e)) where
-    plain_here : expression_held p x ≡ Expression.base (base_held p x)
-    plain_here =
-        (tree.one_level_held p l w.program).expression x lt
-        ∙ ap (expression_tree (held p) p x) (sym is)
-        ∙ other_expression (held p) p x e k
-        ∙ ap (λ (u : ExpressionEntry). Expression.base (base_tree (held p) p u)) is
-        ∙ ap Expression.base (sym ((tree.one_level_held p l w.program).base x lt))
+  module _
+      (b : (d : ℕ) → e ≡ ExpressionEntry.Frame d → ⊥)
+      (c : (y : ℕ) → e ≡ ExpressionEntry.Not y → ⊥)
+      (k : (o y z : ℕ) → e ≡ ExpressionEntry.Operate o y z → ⊥)
+    where
+      plain_here : expression_held p x ≡ Expression.base (base_held p x)
+      plain_here =
+          (tree.one_level_held p l w.program).expression x lt
+          ∙ ap (expression_tree (held p) p x) (sym is)
+          ∙ other_expression (held p) p x e b c k
+          ∙ ap (λ (u : ExpressionEntry). Expression.base (base_tree (held p) p u)) is
+          ∙ ap Expression.base (sym ((tree.one_level_held p l w.program).base x lt))
 
-    pub plain_falls : (t : ℕ) → expression_weight (expression_held p x) ≡ t → base_weight (base_held p x) < t
-    unfolding base_weight
-    plain_falls t h = let s = ap expression_weight plain_here in omega arith
+      pub plain_falls : (t : ℕ) → expression_weight (expression_held p x) ≡ t → base_weight (base_held p x) < t
+      unfolding base_weight
+      plain_falls t h = let s = ap expression_weight plain_here in omega arith
 
-    pub expression_plain : (place inner : Place) {m₁ : List ℕ} {a : ℕ} → Appended m limit at (base_text p l place x) m₁ a → Appended m limit at (expression_text p l place inner x) m₁ a
-    unfolding base_text base_words
-    expression_plain place inner = appended_as (expression_as place inner _ plain_here)
+      pub expression_plain : (place inner : Place) {m₁ : List ℕ} {a : ℕ} → Appended m limit at (base_text p l place x) m₁ a → Appended m limit at (expression_text p l place inner x) m₁ a
+      unfolding base_text base_words
+      expression_plain place inner = appended_as (expression_as place inner _ plain_here)
 
 -- ---- Instructions
 

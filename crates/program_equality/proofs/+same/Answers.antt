@@ -12,7 +12,7 @@ use Rattle.program_equality.proofs.+same.Goals as goal
 
 pub same_base-returns-then-expression_kind-kind : goal.same_base-returns-then-expression_kind-kind
 same_base-returns-then-expression_kind-kind t c =
-    base_apart c.requires.1 _ _ c.expression_kind-kind.ensures c.expression_kind.ensures c.if-expression_kind-kind.true
+    base_apart c.requires _ _ c.expression_kind-kind.ensures c.expression_kind.ensures c.if-expression_kind-kind.true
 
 pub same_base-returns-then-kind-eq0 : goal.same_base-returns-then-kind-eq0
 same_base-returns-then-kind-eq0 t c = search base_integers
@@ -22,103 +22,103 @@ same_base-same_literal_bytes-requires t c = search literals_there
 
 pub same_base-returns-then-kind-eq1 : goal.same_base-returns-then-kind-eq1
 same_base-returns-then-kind-eq1 t c =
-    base_literals c.requires.1 _ _ c.expression_kind-kind.ensures c.expression_kind.ensures c.if-expression_kind-kind.false _ _ c.expression_a-a.ensures c.expression_a-b.ensures _ c.if-kind-eq1.true c.same_literal_bytes.ensures
+    base_literals c.requires _ _ c.expression_kind-kind.ensures c.expression_kind.ensures c.if-expression_kind-kind.false _ _ c.expression_a-a.ensures c.expression_a-b.ensures _ c.if-kind-eq1.true c.same_literal_bytes.ensures
 
 pub same_base-same_list-requires : goal.same_base-same_list-requires
 same_base-same_list-requires t c =
-    code_asked c.requires.1 _ _ c.expression_kind-kind.ensures c.expression_kind.ensures c.if-expression_kind-kind.false _ _ c.expression_a-a.ensures c.expression_a-b.ensures c.if-kind-eq4.true _ _ c.code_first.ensures c.code_first-then-kind-eq4.ensures t c.requires.0
+    code_asked c.requires _ _ c.expression_kind-kind.ensures c.expression_kind.ensures c.if-expression_kind-kind.false _ _ c.expression_a-a.ensures c.expression_a-b.ensures c.if-kind-eq4.true _ _ c.code_first.ensures c.code_first-then-kind-eq4.ensures t c.decreases
 
 pub same_base-returns-then-kind-eq4 : goal.same_base-returns-then-kind-eq4
 same_base-returns-then-kind-eq4 t c =
-    base_codes c.requires.1 _ _ c.expression_kind-kind.ensures c.expression_kind.ensures c.if-expression_kind-kind.false _ _ c.expression_a-a.ensures c.expression_a-b.ensures c.if-kind-eq4.true _ _ c.code_first.ensures c.code_first-then-kind-eq4.ensures _ c.same_list.ensures
+    base_codes c.requires _ _ c.expression_kind-kind.ensures c.expression_kind.ensures c.if-expression_kind-kind.false _ _ c.expression_a-a.ensures c.expression_a-b.ensures c.if-kind-eq4.true _ _ c.code_first.ensures c.code_first-then-kind-eq4.ensures _ c.same_list.ensures
 
 pub same_base-same_names-requires : goal.same_base-same_names-requires
 same_base-same_names-requires t c =
-    paths_there c.requires.1 _ _ c.expression_kind-kind.ensures c.expression_kind.ensures c.if-expression_kind-kind.false _ _ c.expression_a-a.ensures c.expression_a-b.ensures c.if-kind-eq0.false c.if-kind-eq1.false c.if-kind-eq4.false _ _ c.expression_b.ensures c.expression_b-2.ensures
+    paths_there c.requires _ _ c.expression_kind-kind.ensures c.expression_kind.ensures c.if-expression_kind-kind.false _ _ c.expression_a-a.ensures c.expression_a-b.ensures c.if-kind-eq0.false c.if-kind-eq1.false c.if-kind-eq4.false _ _ c.expression_b.ensures c.expression_b-2.ensures
 
 pub same_base-returns : goal.same_base-returns
 same_base-returns t c =
-    base_paths c.requires.1 _ _ c.expression_kind-kind.ensures c.expression_kind.ensures c.if-expression_kind-kind.false _ _ c.expression_a-a.ensures c.expression_a-b.ensures c.if-kind-eq0.false c.if-kind-eq1.false c.if-kind-eq4.false _ _ c.expression_b.ensures c.expression_b-2.ensures _ c.same_names.ensures
+    base_paths c.requires _ _ c.expression_kind-kind.ensures c.expression_kind.ensures c.if-expression_kind-kind.false _ _ c.expression_a-a.ensures c.expression_a-b.ensures c.if-kind-eq0.false c.if-kind-eq1.false c.if-kind-eq4.false _ _ c.expression_b.ensures c.expression_b-2.ensures _ c.same_names.ensures
 
 pub same_expression-returns-then-kind-expression_kind : goal.same_expression-returns-then-kind-expression_kind
 same_expression-returns-then-kind-expression_kind t c =
-    expression_apart c.requires.1 _ _ c.expression_kind-kind.ensures c.expression_kind.ensures c.if-kind-expression_kind.true
+    expression_apart c.requires _ _ c.expression_kind-kind.ensures c.expression_kind.ensures c.if-kind-expression_kind.true
 
 pub same_expression-same_base-requires : goal.same_expression-same_base-requires
 same_expression-same_base-requires t c =
-    base_asked c.requires.1 _ _ c.expression_kind-kind.ensures c.expression_kind.ensures c.if-kind-expression_kind.false c.if-kind-lt5.true t c.requires.0
+    base_asked c.requires _ _ c.expression_kind-kind.ensures c.expression_kind.ensures c.if-kind-expression_kind.false c.if-kind-lt5.true t c.decreases
 
 pub same_expression-returns-then-kind-lt5 : goal.same_expression-returns-then-kind-lt5
 same_expression-returns-then-kind-lt5 t c =
-    expression_bases c.requires.1 _ _ c.expression_kind-kind.ensures c.expression_kind.ensures c.if-kind-expression_kind.false c.if-kind-lt5.true _ c.same_base.ensures
+    expression_bases c.requires _ _ c.expression_kind-kind.ensures c.expression_kind.ensures c.if-kind-expression_kind.false c.if-kind-lt5.true _ c.same_base.ensures
 
 pub same_expression-same_slots-requires : goal.same_expression-same_slots-requires
 same_expression-same_slots-requires t c =
-    frame_asked c.requires.1 _ _ c.expression_kind-kind.ensures c.expression_kind.ensures c.if-kind-expression_kind.false _ _ c.expression_a-a.ensures c.expression_a-b.ensures c.if-kind-eq5.true _ _ c.link.ensures c.link-then-kind-eq5.ensures t c.requires.0
+    frame_asked c.requires _ _ c.expression_kind-kind.ensures c.expression_kind.ensures c.if-kind-expression_kind.false _ _ c.expression_a-a.ensures c.expression_a-b.ensures c.if-kind-eq5.true _ _ c.link.ensures c.link-then-kind-eq5.ensures t c.decreases
 
 pub same_expression-returns-then-kind-eq5 : goal.same_expression-returns-then-kind-eq5
 same_expression-returns-then-kind-eq5 t c =
-    expression_frames c.requires.1 _ _ c.expression_kind-kind.ensures c.expression_kind.ensures c.if-kind-expression_kind.false _ _ c.expression_a-a.ensures c.expression_a-b.ensures c.if-kind-eq5.true _ _ c.link.ensures c.link-then-kind-eq5.ensures _ c.same_slots.ensures
+    expression_frames c.requires _ _ c.expression_kind-kind.ensures c.expression_kind.ensures c.if-kind-expression_kind.false _ _ c.expression_a-a.ensures c.expression_a-b.ensures c.if-kind-eq5.true _ _ c.link.ensures c.link-then-kind-eq5.ensures _ c.same_slots.ensures
 
 pub same_expression-same_base-requires-then-kind-eq6 : goal.same_expression-same_base-requires-then-kind-eq6
 same_expression-same_base-requires-then-kind-eq6 t c =
-    not_asked c.requires.1 _ _ c.expression_kind-kind.ensures c.expression_kind.ensures c.if-kind-expression_kind.false _ _ c.expression_a-a.ensures c.expression_a-b.ensures c.if-kind-eq6.true t c.requires.0
+    not_asked c.requires _ _ c.expression_kind-kind.ensures c.expression_kind.ensures c.if-kind-expression_kind.false _ _ c.expression_a-a.ensures c.expression_a-b.ensures c.if-kind-eq6.true t c.decreases
 
 pub same_expression-returns-then-kind-eq6 : goal.same_expression-returns-then-kind-eq6
 same_expression-returns-then-kind-eq6 t c =
-    expression_nots c.requires.1 _ _ c.expression_kind-kind.ensures c.expression_kind.ensures c.if-kind-expression_kind.false _ _ c.expression_a-a.ensures c.expression_a-b.ensures c.if-kind-eq6.true _ c.same_base-then-kind-eq6.ensures
+    expression_nots c.requires _ _ c.expression_kind-kind.ensures c.expression_kind.ensures c.if-kind-expression_kind.false _ _ c.expression_a-a.ensures c.expression_a-b.ensures c.if-kind-eq6.true _ c.same_base-then-kind-eq6.ensures
 
 pub same_expression-same_two-requires : goal.same_expression-same_two-requires
 same_expression-same_two-requires t c =
-    operation_asked c.requires.1 _ _ c.expression_kind-kind.ensures c.expression_kind.ensures c.if-kind-expression_kind.false _ _ c.expression_a-a.ensures c.expression_a-b.ensures c.if-kind-lt5.false c.if-kind-eq5.false c.if-kind-eq6.false _ _ c.expression_b.ensures c.expression_b-2.ensures t c.requires.0
+    operation_asked c.requires _ _ c.expression_kind-kind.ensures c.expression_kind.ensures c.if-kind-expression_kind.false _ _ c.expression_a-a.ensures c.expression_a-b.ensures c.if-kind-lt5.false c.if-kind-eq5.false c.if-kind-eq6.false _ _ c.expression_b.ensures c.expression_b-2.ensures t c.decreases
 
 pub same_expression-returns : goal.same_expression-returns
 same_expression-returns t c =
-    expression_operations c.requires.1 _ _ c.expression_kind-kind.ensures c.expression_kind.ensures c.if-kind-expression_kind.false _ _ c.expression_a-a.ensures c.expression_a-b.ensures c.if-kind-lt5.false c.if-kind-eq5.false c.if-kind-eq6.false _ _ c.expression_b.ensures c.expression_b-2.ensures _ c.same_two.ensures
+    expression_operations c.requires _ _ c.expression_kind-kind.ensures c.expression_kind.ensures c.if-kind-expression_kind.false _ _ c.expression_a-a.ensures c.expression_a-b.ensures c.if-kind-lt5.false c.if-kind-eq5.false c.if-kind-eq6.false _ _ c.expression_b.ensures c.expression_b-2.ensures _ c.same_two.ensures
 
 pub same_instruction-returns-then-instruction_kind-kind : goal.same_instruction-returns-then-instruction_kind-kind
 same_instruction-returns-then-instruction_kind-kind t c =
-    instruction_apart c.requires.1 _ _ c.instruction_kind-kind.ensures c.instruction_kind.ensures c.if-instruction_kind-kind.true
+    instruction_apart c.requires _ _ c.instruction_kind-kind.ensures c.instruction_kind.ensures c.if-instruction_kind-kind.true
 
 pub same_instruction-same_base-requires : goal.same_instruction-same_base-requires
 same_instruction-same_base-requires t c =
-    show_asked c.requires.1 _ _ c.instruction_kind-kind.ensures c.instruction_kind.ensures c.if-instruction_kind-kind.false _ _ c.instruction_a-a.ensures c.instruction_a-d.ensures c.if-kind-eq2.true t c.requires.0
+    show_asked c.requires _ _ c.instruction_kind-kind.ensures c.instruction_kind.ensures c.if-instruction_kind-kind.false _ _ c.instruction_a-a.ensures c.instruction_a-d.ensures c.if-kind-eq2.true t c.decreases
 
 pub same_instruction-returns-then-kind-eq2 : goal.same_instruction-returns-then-kind-eq2
 same_instruction-returns-then-kind-eq2 t c =
-    instruction_shows c.requires.1 _ _ c.instruction_kind-kind.ensures c.instruction_kind.ensures c.if-instruction_kind-kind.false _ _ c.instruction_a-a.ensures c.instruction_a-d.ensures c.if-kind-eq2.true _ c.same_base.ensures
+    instruction_shows c.requires _ _ c.instruction_kind-kind.ensures c.instruction_kind.ensures c.if-instruction_kind-kind.false _ _ c.instruction_a-a.ensures c.instruction_a-d.ensures c.if-kind-eq2.true _ c.same_base.ensures
 
 pub same_instruction-same_two-requires : goal.same_instruction-same_two-requires
 same_instruction-same_two-requires t c =
-    jump_asked c.requires.1 _ _ c.instruction_kind-kind.ensures c.instruction_kind.ensures c.if-instruction_kind-kind.false _ _ c.instruction_a-a.ensures c.instruction_a-d.ensures _ _ c.instruction_b-b.ensures c.instruction_b-e.ensures c.if-kind-eq3.true t c.requires.0
+    jump_asked c.requires _ _ c.instruction_kind-kind.ensures c.instruction_kind.ensures c.if-instruction_kind-kind.false _ _ c.instruction_a-a.ensures c.instruction_a-d.ensures _ _ c.instruction_b-b.ensures c.instruction_b-e.ensures c.if-kind-eq3.true t c.decreases
 
 pub same_instruction-returns-then-kind-eq3 : goal.same_instruction-returns-then-kind-eq3
 same_instruction-returns-then-kind-eq3 t c =
-    instruction_jumps c.requires.1 _ _ c.instruction_kind-kind.ensures c.instruction_kind.ensures c.if-instruction_kind-kind.false _ _ c.instruction_a-a.ensures c.instruction_a-d.ensures _ _ c.instruction_b-b.ensures c.instruction_b-e.ensures c.if-kind-eq3.true _ c.same_two.ensures
+    instruction_jumps c.requires _ _ c.instruction_kind-kind.ensures c.instruction_kind.ensures c.if-instruction_kind-kind.false _ _ c.instruction_a-a.ensures c.instruction_a-d.ensures _ _ c.instruction_b-b.ensures c.instruction_b-e.ensures c.if-kind-eq3.true _ c.same_two.ensures
 
 pub same_instruction-same_three-requires : goal.same_instruction-same_three-requires
 same_instruction-same_three-requires t c =
-    ifeq_asked c.requires.1 _ _ c.instruction_kind-kind.ensures c.instruction_kind.ensures c.if-instruction_kind-kind.false _ _ c.instruction_a-a.ensures c.instruction_a-d.ensures _ _ c.instruction_b-b.ensures c.instruction_b-e.ensures _ _ c.instruction_c-c.ensures c.instruction_c-f.ensures c.if-kind-eq4.true t c.requires.0
+    ifeq_asked c.requires _ _ c.instruction_kind-kind.ensures c.instruction_kind.ensures c.if-instruction_kind-kind.false _ _ c.instruction_a-a.ensures c.instruction_a-d.ensures _ _ c.instruction_b-b.ensures c.instruction_b-e.ensures _ _ c.instruction_c-c.ensures c.instruction_c-f.ensures c.if-kind-eq4.true t c.decreases
 
 pub same_instruction-returns-then-kind-eq4 : goal.same_instruction-returns-then-kind-eq4
 same_instruction-returns-then-kind-eq4 t c =
-    instruction_ifeqs c.requires.1 _ _ c.instruction_kind-kind.ensures c.instruction_kind.ensures c.if-instruction_kind-kind.false _ _ c.instruction_a-a.ensures c.instruction_a-d.ensures _ _ c.instruction_b-b.ensures c.instruction_b-e.ensures _ _ c.instruction_c-c.ensures c.instruction_c-f.ensures c.if-kind-eq4.true _ c.same_three.ensures
+    instruction_ifeqs c.requires _ _ c.instruction_kind-kind.ensures c.instruction_kind.ensures c.if-instruction_kind-kind.false _ _ c.instruction_a-a.ensures c.instruction_a-d.ensures _ _ c.instruction_b-b.ensures c.instruction_b-e.ensures _ _ c.instruction_c-c.ensures c.instruction_c-f.ensures c.if-kind-eq4.true _ c.same_three.ensures
 
 pub same_instruction-same_names-requires : goal.same_instruction-same_names-requires
 same_instruction-same_names-requires t c =
-    assign_paths c.requires.1 _ _ c.instruction_kind-kind.ensures c.instruction_kind.ensures c.if-instruction_kind-kind.false _ _ c.instruction_a-a.ensures c.instruction_a-d.ensures _ _ c.instruction_b-b.ensures c.instruction_b-e.ensures _ _ c.instruction_c-c.ensures c.instruction_c-f.ensures c.if-kind-eq2.false c.if-kind-eq3.false c.if-kind-eq4.false
+    assign_paths c.requires _ _ c.instruction_kind-kind.ensures c.instruction_kind.ensures c.if-instruction_kind-kind.false _ _ c.instruction_a-a.ensures c.instruction_a-d.ensures _ _ c.instruction_b-b.ensures c.instruction_b-e.ensures _ _ c.instruction_c-c.ensures c.instruction_c-f.ensures c.if-kind-eq2.false c.if-kind-eq3.false c.if-kind-eq4.false
 
 pub same_instruction-returns-then-not-same_names : goal.same_instruction-returns-then-not-same_names
 same_instruction-returns-then-not-same_names t c =
-    assign_apart c.requires.1 _ _ c.instruction_kind-kind.ensures c.instruction_kind.ensures c.if-instruction_kind-kind.false _ _ c.instruction_a-a.ensures c.instruction_a-d.ensures _ _ c.instruction_b-b.ensures c.instruction_b-e.ensures _ _ c.instruction_c-c.ensures c.instruction_c-f.ensures c.if-kind-eq2.false c.if-kind-eq3.false c.if-kind-eq4.false _ c.same_names.ensures c.if-not-same_names.true
+    assign_apart c.requires _ _ c.instruction_kind-kind.ensures c.instruction_kind.ensures c.if-instruction_kind-kind.false _ _ c.instruction_a-a.ensures c.instruction_a-d.ensures _ _ c.instruction_b-b.ensures c.instruction_b-e.ensures _ _ c.instruction_c-c.ensures c.instruction_c-f.ensures c.if-kind-eq2.false c.if-kind-eq3.false c.if-kind-eq4.false _ c.same_names.ensures c.if-not-same_names.true
 
 pub same_instruction-same_expression-requires : goal.same_instruction-same_expression-requires
 same_instruction-same_expression-requires t c =
-    assign_asked c.requires.1 _ _ c.instruction_kind-kind.ensures c.instruction_kind.ensures c.if-instruction_kind-kind.false _ _ c.instruction_a-a.ensures c.instruction_a-d.ensures _ _ c.instruction_b-b.ensures c.instruction_b-e.ensures _ _ c.instruction_c-c.ensures c.instruction_c-f.ensures c.if-kind-eq2.false c.if-kind-eq3.false c.if-kind-eq4.false t c.requires.0
+    assign_asked c.requires _ _ c.instruction_kind-kind.ensures c.instruction_kind.ensures c.if-instruction_kind-kind.false _ _ c.instruction_a-a.ensures c.instruction_a-d.ensures _ _ c.instruction_b-b.ensures c.instruction_b-e.ensures _ _ c.instruction_c-c.ensures c.instruction_c-f.ensures c.if-kind-eq2.false c.if-kind-eq3.false c.if-kind-eq4.false t c.decreases
 
 pub same_instruction-returns : goal.same_instruction-returns
 same_instruction-returns t c =
-    instruction_assigns c.requires.1 _ _ c.instruction_kind-kind.ensures c.instruction_kind.ensures c.if-instruction_kind-kind.false _ _ c.instruction_a-a.ensures c.instruction_a-d.ensures _ _ c.instruction_b-b.ensures c.instruction_b-e.ensures _ _ c.instruction_c-c.ensures c.instruction_c-f.ensures c.if-kind-eq2.false c.if-kind-eq3.false c.if-kind-eq4.false _ c.same_names.ensures c.if-not-same_names.false _ c.same_expression.ensures
+    instruction_assigns c.requires _ _ c.instruction_kind-kind.ensures c.instruction_kind.ensures c.if-instruction_kind-kind.false _ _ c.instruction_a-a.ensures c.instruction_a-d.ensures _ _ c.instruction_b-b.ensures c.instruction_b-e.ensures _ _ c.instruction_c-c.ensures c.instruction_c-f.ensures c.if-kind-eq2.false c.if-kind-eq3.false c.if-kind-eq4.false _ c.same_names.ensures c.if-not-same_names.false _ c.same_expression.ensures
 
 pub same_list-loop-a-init : goal.same_list-loop-a-init
 same_list-loop-a-init t c = search lists_start

@@ -29,7 +29,7 @@ base_text-code_text-b-requires t c = (search code_falls, (search write_next, sea
 
 pub base_text-append-requires : goal.base_text-append-requires
 base_text-append-requires t c =
-    can_second c.requires.x_bound.0 c.append-a.ensures c.code_text-b.ensures
+    can_second c.requires.can_write c.append-a.ensures c.code_text-b.ensures
 
 pub base_text-returns-in-Integer : goal.base_text-returns-in-Integer
 base_text-returns-in-Integer t c = search base_integer
@@ -81,7 +81,7 @@ expression_text-slots_text-b-requires t c = (search frame_falls, (search write_n
 
 pub expression_text-append-requires : goal.expression_text-append-requires
 expression_text-append-requires t c =
-    can_second c.requires.x_bound.0 c.append-a.ensures c.slots_text-b.ensures
+    can_second c.requires.can_write c.append-a.ensures c.slots_text-b.ensures
 
 pub expression_text-base_text-requires : goal.expression_text-base_text-requires
 expression_text-base_text-requires t c = (search not_falls, (search write_next, search not_there))
@@ -133,14 +133,12 @@ instruction_text-base_text-requires t c = (search show_falls, (search (write_nex
 
 pub instruction_text-base_text-b-requires : goal.instruction_text-base_text-b-requires
 instruction_text-base_text-b-requires t c =
-    let o = jump_operands c.requires.i_bound.0 c.requires.i_bound.1 _ c.instruction_at-e.ensures _ _ c.in-Jump.is in
-    let h = c.requires.can_write in
+    let o = jump_operands c.requires.can_write c.requires.i_bound _ c.instruction_at-e.ensures _ _ c.in-Jump.is in
     (omega arith, (search (write_next, c.append-a-in-Jump.ensures), omega arith))
 
 pub instruction_text-base_text-requires-in-Jump : goal.instruction_text-base_text-requires-in-Jump
 instruction_text-base_text-requires-in-Jump t c =
-    let o = jump_operands c.requires.i_bound.0 c.requires.i_bound.1 _ c.instruction_at-e.ensures _ _ c.in-Jump.is in
-    let h = c.requires.can_write in
+    let o = jump_operands c.requires.can_write c.requires.i_bound _ c.instruction_at-e.ensures _ _ c.in-Jump.is in
     (omega arith, (search (write_second, c.append-a-in-Jump.ensures, c.base_text-b.ensures), omega arith))
 
 pub instruction_text-base_text-b-requires-in-Ifeq : goal.instruction_text-base_text-b-requires-in-Ifeq
@@ -151,7 +149,7 @@ instruction_text-base_text-c-requires t c = (search ifeq_second_falls, (search (
 
 pub instruction_text-base_text-requires-in-Ifeq : goal.instruction_text-base_text-requires-in-Ifeq
 instruction_text-base_text-requires-in-Ifeq t c =
-    (ifeq_third_falls c.requires.i_bound.0 c.requires.i_bound.1 _ c.instruction_at-e.ensures _ _ _ c.in-Ifeq.is _ c.requires.can_write, (write_third c.requires.i_bound.0 c.append-a-in-Ifeq.ensures c.base_text-b-in-Ifeq.ensures c.base_text-c.ensures, ifeq_third c.requires.i_bound.0 c.requires.i_bound.1 _ c.instruction_at-e.ensures _ _ _ c.in-Ifeq.is))
+    (ifeq_third_falls c.requires.can_write c.requires.i_bound _ c.instruction_at-e.ensures _ _ _ c.in-Ifeq.is _ c.decreases, (write_third c.requires.can_write c.append-a-in-Ifeq.ensures c.base_text-b-in-Ifeq.ensures c.base_text-c.ensures, ifeq_third c.requires.can_write c.requires.i_bound _ c.instruction_at-e.ensures _ _ _ c.in-Ifeq.is))
 
 pub instruction_text-returns-in-AssignSelf : goal.instruction_text-returns-in-AssignSelf
 instruction_text-returns-in-AssignSelf t c = search instruction_self
@@ -167,7 +165,7 @@ instruction_text-returns-in-Jump t c = search instruction_jump
 
 pub instruction_text-returns-in-Ifeq : goal.instruction_text-returns-in-Ifeq
 instruction_text-returns-in-Ifeq t c =
-    instruction_ifeq c.requires.i_bound.0 c.requires.i_bound.1 _ c.instruction_at-e.ensures _ _ _ c.in-Ifeq.is _ c.append-a-in-Ifeq.ensures c.base_text-b-in-Ifeq.ensures c.base_text-c.ensures c.base_text-in-Ifeq.ensures
+    instruction_ifeq c.requires.can_write c.requires.i_bound _ c.instruction_at-e.ensures _ _ _ c.in-Ifeq.is _ c.append-a-in-Ifeq.ensures c.base_text-b-in-Ifeq.ensures c.base_text-c.ensures c.base_text-in-Ifeq.ensures
 
 pub instruction_text-returns-in-Bad : goal.instruction_text-returns-in-Bad
 instruction_text-returns-in-Bad t c = absurd (search instruction_formed)
@@ -182,7 +180,7 @@ pub slots_text-returns-then-limit-b : goal.slots_text-returns-then-limit-b
 slots_text-returns-then-limit-b t c = search slots_past
 
 pub slots_text-slot_head-a-requires : goal.slots_text-slot_head-a-requires
-slots_text-slot_head-a-requires t c = (search slot_named, search slots_can)
+slots_text-slot_head-a-requires t c = record { at_name = search slot_named; can_append = search slots_can }
 
 pub slots_text-expression_text-b-requires : goal.slots_text-expression_text-b-requires
 slots_text-expression_text-b-requires t c = (search slot_falls, (search (slot_can, c.slot_head-a.ensures), search slot_there))

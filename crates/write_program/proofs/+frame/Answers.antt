@@ -20,7 +20,7 @@ pub frame_text-returns-then-limit-b : goal.frame_text-returns-then-limit-b
 frame_text-returns-then-limit-b t c = search frame_past
 
 pub frame_text-slot_head-c-requires : goal.frame_text-slot_head-c-requires
-frame_text-slot_head-c-requires t c = (search slot_named, search slots_can)
+frame_text-slot_head-c-requires t c = record { at_name = search slot_named; can_append = search slots_can }
 
 pub frame_text-outside_text-b-requires : goal.frame_text-outside_text-b-requires
 frame_text-outside_text-b-requires t c = (search slot_falls, (search (slot_can, c.slot_head-c.ensures), search frame_slot))
@@ -54,14 +54,14 @@ outside_text-bounds-g-depth t c = search outside_inside
 
 pub outside_text-frame_text-b-requires : goal.outside_text-frame_text-b-requires
 outside_text-frame_text-b-requires t c =
-    (search frame_falls, (write_next c.requires.outside_slot.0 c.append-a.ensures, outside_inner c.requires.outside_slot.0 c.requires.outside_slot.1 _ c.expression_at.ensures _ _ c.in-Frame.is c.link.ensures _ _ (omega arith)))
+    (search frame_falls, (write_next c.requires.can_write c.append-a.ensures, outside_inner c.requires.can_write c.requires.outside_slot _ c.expression_at.ensures _ _ c.in-Frame.is c.link.ensures _ _ (omega arith)))
 
 pub outside_text-append-requires : goal.outside_text-append-requires
 outside_text-append-requires t c = search (can_second, c.append-a.ensures, c.frame_text-b.ensures.appended)
 
 pub outside_text-shape_of-g : goal.outside_text-shape_of-g
-outside_text-shape_of-g t c = c.frame_text-b.auto.1.1.0 ∙ simp length-set
+outside_text-shape_of-g t c = c.frame_text-b.auto.g ∙ simp length-set
 
 pub outside_text-returns : goal.outside_text-returns
 outside_text-returns t c =
-    outside_frame c.requires.outside_slot.0 c.requires.outside_slot.1 _ c.expression_at.ensures _ _ c.in-Frame.is c.link.ensures _ c.slot_name.ensures c.append-a.ensures c.frame_text-b.ensures c.append.ensures
+    outside_frame c.requires.can_write c.requires.outside_slot _ c.expression_at.ensures _ _ c.in-Frame.is c.link.ensures _ c.slot_name.ensures c.append-a.ensures c.frame_text-b.ensures c.append.ensures
