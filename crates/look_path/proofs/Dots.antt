@@ -69,8 +69,7 @@ pub dots_dot_alone : to_end (names (fixed Fixed.dot ∷ [])) ≡ none
 dots_dot_alone = no_option _ (λ ns e. go ns (dots_in (fixed Fixed.dot ∷ []) ns e))
   where
     go : (ns : List ℕ) → Names⊢ (fixed Fixed.dot ∷ []) ns [] → ⊥
-    go [] d = elim d [ ]
-    go (n ∷ ns) d = elim d [ ]
+    go ns d = elim d [ ]
 
 pub dots_no_name : (y : Symbol) (us : List Symbol) → (kind_of y ≡ 25 → ⊥) → to_end (names (fixed Fixed.dot ∷ y ∷ us)) ≡ none
 unfolding kind_of
@@ -135,8 +134,8 @@ pub path_up : (us : List Symbol) → look_path (a_path (fixed Fixed.up ∷ us)) 
 unfolding with_root look_path
 path_up us = same_option _ _ (λ w e. further us w (looked _ w e).one (looked _ w e).path) (λ w e. back (to_end (names us)) refl w e)
   where
-    further : (us : List Symbol) (w : Written) → OnePath w → Path⊢ (fixed Fixed.up ∷ us) w [] → with_root (Written.up 0) (to_end (names us)) ≡ some w
-    further _ _ (OnePath.self {ns = ns}) d = elim d [ ]
+    further : (vs : List Symbol) (w : Written) → OnePath w → Path⊢ (fixed Fixed.up ∷ vs) w [] → with_root (Written.up 0) (to_end (names vs)) ≡ some w
+    further _ _ OnePath.self d = elim d [ ]
     further _ _ OnePath.up (Path⊢.up Ups⊢.none d) = rw (dots_out d)
 
     back : (o : Option (List ℕ)) → to_end (names us) ≡ o → (w : Written) → with_root (Written.up 0) o ≡ some w → look_path (a_path (fixed Fixed.up ∷ us)) ≡ some w

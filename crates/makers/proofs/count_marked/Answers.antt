@@ -10,7 +10,7 @@ pub count_frame-requires : goal.count_frame-requires
 count_frame-requires c = search can_count
 
 pub loop-f-preserved : goal.loop-f-preserved
-loop-f-preserved c = elim c.if-marks-wide-ne0.branch [ then-marks-wide-ne0 w ↦ search (one_more, w.3 ∙ w.2.ensures) | else-marks-wide-ne0 w ↦ search not_marked ]
+loop-f-preserved c = elim c.if-marks-wide-ne0.branch [ then-marks-wide-ne0 w ↦ search (one_more, w.counts-is ∙ w.count_frame.ensures) | else-marks-wide-ne0 w ↦ search not_marked ]
 
 pub returns : goal.returns
 returns c = search all_counted
