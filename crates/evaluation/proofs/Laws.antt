@@ -5,7 +5,6 @@ use mathlib.Core.List.{List, [], ◌∷◌}
 use native.Mathlib.Omega.{arith}
 use native.Mathlib.Decide.{dec_le, ℕ_discrete}
 use lib.ListN.{length}
-use types.Run.{miss}
 use borrow.Author.Tests.{eq-eqb, ne_eqb, le-leb, lt-leb}
 use Rattle.framed.specs.declared.Value.{Value}
 use Rattle.framed.specs.Tree.{Expression, Slots}
@@ -85,7 +84,7 @@ module _ (p l h t : List ℕ) (x : ℕ) (can : CanEvaluate p l h t x) (e : Expre
   x_small = let a = can.there in let b = can.writable.program.entries.limits.expressions_most in omega arith
 
   pub evaluate_flat : ((k : ℕ) → e ≡ ExpressionEntry.Frame k → ⊥) → Flat p l h t x
-  evaluate_flat o = record { can = can; no_frame = λ d q. miss (0 ∷ 1 ∷ 2 ∷ 3 ∷ 4 ∷ 6 ∷ 7 ∷ 8 ∷ []) 5 tt (rw (ee ∙ q) at o) }
+  evaluate_flat o = record { can = can; no_frame = λ d q. o d (ee ∙ q) }
 
   module _ (d : ℕ) (is : e ≡ ExpressionEntry.Frame d) (f : ℕ) (h₁ : List ℕ) (c : Claims h f h₁) (z : ℕ) (ez : z ≡ link 1024 x d) where
     entry : expression_at p x ≡ ExpressionEntry.Frame d

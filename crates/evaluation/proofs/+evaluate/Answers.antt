@@ -4,7 +4,7 @@ use Rattle.evaluation.proofs.Laws.{fill_start, fill_size, fill_text_size, fill_d
 use Rattle.evaluation.proofs.+evaluate.Goals as goal
 
 pub evaluate-flat-requires : goal.evaluate-flat-requires
-evaluate-flat-requires t c = (search evaluate_flat, search rules)
+evaluate-flat-requires t c = record { flat = search evaluate_flat; texts_full = search rules }
 
 pub evaluate-fill-requires : goal.evaluate-fill-requires
 evaluate-fill-requires t c = (search evaluate_falls, (search evaluate_can_fill, search evaluate_full))
