@@ -1,6 +1,6 @@
 -- What a call of write gives and means, and one law for each way through the code. Assumes nothing.
 use mathlib.Core.Path.{◌≡◌, refl, sym, ap, ◌∙◌, subst}
-use mathlib.Core.Bool.{Bool, true, false, not}
+use mathlib.Core.Bool.{Bool, true, false}
 use mathlib.Core.List.{List, ◌++◌}
 use Prim.Native.Nat.{ℕ, min, ◌*◌, ◌^◌, ◌≤◌, ◌<◌}
 use native.Mathlib.Nat.{zero-add, min-le_left, min-le_right}
@@ -9,7 +9,7 @@ use native.Mathlib.Decide.{dec_le}
 use lib.Dec.{leb}
 use lib.ListN.{length, take, drop, length-append}
 use lib.Seq.{length-take-le, take-append-le, take-append_seam}
-use borrow.Author.Tests.{not-true, not-false, le-leb, lt-leb}
+use borrow.Author.Tests.{le-leb, lt-leb}
 use Rattle.framed.specs.declared.WriteAnswer.{WriteAnswer}
 use Rattle.framed.specs.Answers.{Wrote, write_word}
 use Rattle.framed.specs.Calls.{write, buffer_after}
@@ -156,16 +156,16 @@ module _ (p h l t buffer : List ℕ) where
   answer_means e = subst (λ (x : Writing). WriteMeans p h l t buffer x.answer x.buffer) e (write_is_text p h l t buffer)
 
   module _ (b : Bool) (eb : b ≡ well_formed p h l t) where
-    is_formed : not b ≡ false → WellFormed p h l t
-    is_formed e = (well_formed_decides p h l t).0 (sym eb ∙ not-false b e)
+    is_formed : b ≡ true → WellFormed p h l t
+    is_formed e = (well_formed_decides p h l t).0 (sym eb ∙ e)
 
-    pub can_write_through : not b ≡ false → length buffer * 1 < 2 ^ 63 → CanWriteThrough p l buffer
+    pub can_write_through : b ≡ true → length buffer * 1 < 2 ^ 63 → CanWriteThrough p l buffer
     can_write_through e lt = record { program = (is_formed e).program; small = omega arith }
 
-    pub refused : not b ≡ true → (write_call p h l t buffer ≡ writing WriteAnswer.NotWellFormed buffer) × WriteMeans p h l t buffer WriteAnswer.NotWellFormed buffer
+    pub refused : b ≡ false → (write_call p h l t buffer ≡ writing WriteAnswer.NotWellFormed buffer) × WriteMeans p h l t buffer WriteAnswer.NotWellFormed buffer
     unfolding write_call
-    refused e = let x : write_call p h l t buffer ≡ writing WriteAnswer.NotWellFormed buffer = rw (← eb, not-true b e) in (x, answer_means x)
+    refused e = let x : write_call p h l t buffer ≡ writing WriteAnswer.NotWellFormed buffer = rw (← eb, e) in (x, answer_means x)
 
-    pub answered : {r : WriteAnswer} {buffer' : List ℕ} → not b ≡ false → text_written (text (program_held p l)) buffer ≡ writing r buffer' →
+    pub answered : {r : WriteAnswer} {buffer' : List ℕ} → b ≡ true → text_written (text (program_held p l)) buffer ≡ writing r buffer' →
         (write_call p h l t buffer ≡ writing r buffer') × WriteMeans p h l t buffer r buffer'
     answered e w = let x = call_writes p h l t buffer (is_formed e) ∙ w in (x, answer_means x)

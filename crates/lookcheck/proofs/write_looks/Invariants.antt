@@ -4,7 +4,7 @@ use lib.ListN.{length}
 use Rattle.lookcheck.proofs.write_looks.Given as goal
 
 abbrev pub invariant-loop-at : goal.invariant-loop-at
-invariant-loop-at l = l.at ≤ length l.paths
+invariant-loop-at g l = l.at ≤ length l.paths
 
 abbrev pub decreases-loop-at : goal.decreases-loop-at
-decreases-loop-at l = length l.paths - l.at
+decreases-loop-at g l = length l.paths - l.at

@@ -2,9 +2,6 @@ use Rattle.write_words.proofs.Words.{string_appended}
 use Rattle.write_words.proofs.Laws.{can_append}
 use Rattle.write_words.proofs.append_string.Goals as goal
 
--- look: part-append-end : tie.Need-slice-bounds-append-end
--- part-append-end c = search string_end
-
 pub append-b-requires : goal.append-b-requires
 append-b-requires c = search can_append
 
