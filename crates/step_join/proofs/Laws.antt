@@ -7,7 +7,6 @@ use native.Mathlib.Omega.{arith}
 use native.Mathlib.Decide.{dec_lt}
 use lib.Dec.{eqb}
 use lib.ListN.{length, take, get_elem?}
-use types.Run.{hit}
 use borrow.Author.Tests.{eqb-true, le-leb, lt-leb}
 use Rattle.framed.specs.declared.Value.{Value}
 use Rattle.framed.specs.Values.{join_bytes}
@@ -113,7 +112,7 @@ module _ (p l h t : List ℕ) (i : ℕ) (can : CanAssignJoin p l h t i) where
   -- that of the expression is that of the operation
   value_end : (e : ℕ) → e ≡ operation_end p l h t 12 (expression_a p x) (expression_b p x) → e ≡ expression_end p l h t x
   unfolding single_end
-  value_end e ee = ee ∙ single_is p l h t x can_check (ExpressionEntry.Operate 12 (expression_a p x) (expression_b p x)) (join_entry p i can.joins) (hit (0 ∷ 1 ∷ 2 ∷ 3 ∷ 4 ∷ 6 ∷ 7 ∷ 8 ∷ []) 7 tt)
+  value_end e ee = ee ∙ single_is p l h t x can_check (ExpressionEntry.Operate 12 (expression_a p x) (expression_b p x)) (join_entry p i can.joins) (λ k q. cc)
 
   ended : (e : ℕ) → e ≡ end_met p l h t i → (e ≡ 0 → ⊥) → JoinsOnce p l h t i e h t
   ended e ee ne = record { end = ee; made = λ z. absurd (ne z); kept = λ q. (refl, refl) }

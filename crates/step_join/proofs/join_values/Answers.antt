@@ -11,7 +11,8 @@ pub slice_bounds-put_join-end : goal.slice_bounds-put_join-end
 slice_bounds-put_join-end c = front_size _ _ (omega arith) (search rules)
 
 pub put_join-requires : goal.put_join-requires
-put_join-requires c = (
-  can_put _ _ _ _ _ _ _ (search rules) _ c.fill_join-n.ensures.size (omega arith) _ _ (search rules) c.fill_join-n.ensures.bytes,
-  search rules,
-)
+put_join-requires c =
+    record {
+      can_put_join = can_put _ _ _ _ _ _ _ (search rules) _ c.fill_join-n.ensures.size (omega arith) _ _ (search rules) c.fill_join-n.ensures.bytes;
+      texts_full = search rules;
+    }
