@@ -47,7 +47,7 @@ totals_report q = Report.collected (frame_total (run_of q).machine.state) (text_
 -- a run from the start: what it reports, and that machine alongside what it leaves
 pub record RanFromStart (q : Program) (p l : List ℕ) (a : RunAnswer) (h t shown : List ℕ) : Type 0 where
   pub reported : run_report a shown ≡ ran_report q
-  pub Formed : WellFormed p h l t
+  pub formed : WellFormed p h l t
   pub alike : Alike (run_of q).machine.state (state_held p h t)
 
 pub ran_from_start :
@@ -61,7 +61,7 @@ ran_from_start q p h l t start a h' t' shown means =
     let ran = means.ran start.well_formed in
     record {
       reported = ran.reported (at_start q) start.at_start ∙ ap (λ (z : Ran). Report.ran z.stop z.steps (length z.bytes) z.bytes) same;
-      Formed = ran.well_formed;
+      formed = ran.well_formed;
       alike = subst (λ (z : Ran). Alike z.machine.state (state_held p h' t')) same (ran.alike (at_start q) start.at_start);
     }
 

@@ -7,14 +7,14 @@ returns-then-n-ne0 c =
 
 pub returns-in_default : goal.returns-in_default
 returns-in_default c =
-    absurd (never_refused c.load-a.ensures.meaning c.load_number-n.ensures c.if-n-ne0.false c.run.ensures.meaning c.in_default.keys2)
+    absurd (never_refused c.load-a.ensures.meaning c.load_number-n.ensures c.if-n-ne0.false c.run.ensures.meaning c.in_default.not-Stopped)
 
 pub returns-in_default-collect : goal.returns-in_default-collect
 returns-in_default-collect c =
     absurd
     (never_uncollected
     c.load-a.ensures.meaning c.load_number-n.ensures c.if-n-ne0.false c.run.ensures.meaning
-    c.collect.ensures.exact c.in_default-collect.keys2)
+    c.collect.ensures.exact c.in_default-collect.not-Collected)
 
 pub returns : goal.returns
 returns c =

@@ -2,7 +2,7 @@ use Prim.Native.Nat.{◌-◌}
 use Rattle.test_deep.proofs.grow_all.Given as goal
 
 abbrev pub invariant-loop-n : goal.invariant-loop-n
-invariant-loop-n l = Unit
+invariant-loop-n l = Unit {0}
 
 abbrev pub decreases-loop-n : goal.decreases-loop-n
 decreases-loop-n l = l.levels - l.n

@@ -1,7 +1,0 @@
-use Rattle.replaycorpus.proofs.replay_files.Goals as goal
-
-pub loop-at-init : goal.loop-at-init
-loop-at-init c = tt
-
-pub loop-at-preserved : goal.loop-at-preserved
-loop-at-preserved c = tt
