@@ -7,7 +7,6 @@ use lib.IntN.{ℤ, pos}
 use lib.ListN.{get_elem?}
 use mir.Syntax.{w32}
 use mir.Val.{to_z, of_z}
-use types.Run.{hit}
 use borrow.Author.Tests.{eq-eqb, ne_eqb}
 use Rattle.framed.specs.declared.Value.{Value}
 use Rattle.framed.specs.declared.Text.{Text}
@@ -181,7 +180,7 @@ module _ (h : List ℕ) (f x : ℕ) (v : Value) (lt : f < 256) (r : SlotFound) (
   slot_set i h' is eh = record { end = go (frame_used h f) refl; words = put_sets h f x v r er h' i is eh }
     where
       here : (r ≡ SlotFound.Missing → ⊥)
-      here = rw is (hit (0 ∷ []) 0 tt)
+      here e = cc
 
       go : (b : Bool) → b ≡ frame_used h f → 0 ≡ slot_end (get_elem? (frames_held h) f) x
       go true e = end_found h f x lt true e refl r er here

@@ -8,7 +8,6 @@ use native.Mathlib.Decide.{ℕ_discrete}
 use lib.IntN.{ℤ, ◌+ℤ◌, ◌-ℤ◌, ◌*ℤ◌}
 use lib.Signed.{lt_z}
 use lib.Dec.{eqb, ltb}
-use types.Run.{hit}
 use borrow.Author.Tests.{eq-eqb, ne_eqb}
 use Rattle.words.specs.Words.{pick}
 use Rattle.framed.specs.declared.Value.{Value}
@@ -197,7 +196,7 @@ module _ (p l h t : List ℕ) (x : ℕ) where
 
       end_is : end_of (operation_held p l h t k a b) ≡ expression_end p l h t x
       unfolding single_end operation_end operation_result operand_value heap_held operation_held
-      end_is = single_is p l h t x checks (ExpressionEntry.Operate k a b) at (hit (0 ∷ 1 ∷ 2 ∷ 3 ∷ 4 ∷ 6 ∷ 7 ∷ 8 ∷ []) 7 tt)
+      end_is = single_is p l h t x checks (ExpressionEntry.Operate k a b) at (λ n q. cc)
 
       operated_gives : Gives (of_product (operation_held p l h t k a b))
       unfolding of_product end_of produce
@@ -223,34 +222,29 @@ module _ (p l h t : List ℕ) (x : ℕ) where
           go (yes e) = rw (eq-eqb k 12 e) (a_text (rw (operation_signs p l w.program x there k a b (sym at), e, join_sign) (omega arith)))
           go (no ne) = rw (ne_eqb k 12 ne) (operated_gives few k a b at ne)
 
-      -- by the tag: neither frame literal nor operation
-      base_gives : (e : ExpressionEntry) → e ≡ expression_at p x → ((k : ℕ) → e ≡ ExpressionEntry.Frame k → ⊥)
-          → ((k : ℕ) (n : ℕ) (i : ℕ) → e ≡ ExpressionEntry.Operate k n i → ⊥) → ((d : ℕ) → e ≡ ExpressionEntry.Frame d → ⊥)
+      -- neither frame literal nor operation
+      base_gives : (e : ExpressionEntry) → e ≡ expression_at p x → ((d : ℕ) → e ≡ ExpressionEntry.Frame d → ⊥)
+          → ((k : ℕ) (a : ℕ) (b : ℕ) → e ≡ ExpressionEntry.Operate k a b → ⊥)
           → Still p x → single_end p l h t x e ≡ end_of (operand_value p h x) → read_entry p h x e ≡ value_given (operand_value p h x) → Gives (of_base (operand_value p h x))
-      base_gives e at f o nf s q r = plain s (sym q ∙ single_is p l h t x checks e at f) (rw r at (read_made p l h t x w there e (sym at) nf o))
+      base_gives e at f o s q r = plain s (sym q ∙ single_is p l h t x checks e at f) (rw r at (read_made p l h t x w there e (sym at) f o))
 
       entry_gives : (e : ExpressionEntry) → e ≡ expression_at p x → Gives (entry_given p l h t x e)
       unfolding entry_given expression_tree frame_literals join_signs single_end read_entry
       entry_gives (ExpressionEntry.Integer k) at =
-          base_gives (ExpressionEntry.Integer k) at (hit (0 ∷ 1 ∷ 2 ∷ 3 ∷ 4 ∷ 6 ∷ 7 ∷ 8 ∷ []) 0 tt) (hit (0 ∷ 1 ∷ 2 ∷ 3 ∷ 4 ∷ 5 ∷ 6 ∷ 8 ∷ []) 0 tt)
-          (λ d q. absurd (let z : ◌≡◌ {A = ℕ} 0 1 = cc in omega arith)) (still (ExpressionEntry.Integer k) at refl refl) refl refl
+          base_gives (ExpressionEntry.Integer k) at (λ d q. cc) (λ m b c q. cc) (still (ExpressionEntry.Integer k) at refl refl) refl refl
       entry_gives (ExpressionEntry.Literal k) at =
-          base_gives (ExpressionEntry.Literal k) at (hit (0 ∷ 1 ∷ 2 ∷ 3 ∷ 4 ∷ 6 ∷ 7 ∷ 8 ∷ []) 1 tt) (hit (0 ∷ 1 ∷ 2 ∷ 3 ∷ 4 ∷ 5 ∷ 6 ∷ 8 ∷ []) 1 tt)
-          (λ d q. absurd (let z : ◌≡◌ {A = ℕ} 0 1 = cc in omega arith)) (still (ExpressionEntry.Literal k) at refl refl) refl refl
+          base_gives (ExpressionEntry.Literal k) at (λ d q. cc) (λ m b c q. cc) (still (ExpressionEntry.Literal k) at refl refl) refl refl
       entry_gives (ExpressionEntry.FromSelf j n) at =
-          base_gives (ExpressionEntry.FromSelf j n) at (hit (0 ∷ 1 ∷ 2 ∷ 3 ∷ 4 ∷ 6 ∷ 7 ∷ 8 ∷ []) 2 tt) (hit (0 ∷ 1 ∷ 2 ∷ 3 ∷ 4 ∷ 5 ∷ 6 ∷ 8 ∷ []) 2 tt)
-          (λ d q. absurd (let z : ◌≡◌ {A = ℕ} 0 1 = cc in omega arith)) (still (ExpressionEntry.FromSelf j n) at refl refl) refl refl
+          base_gives (ExpressionEntry.FromSelf j n) at (λ d q. cc) (λ m b c q. cc) (still (ExpressionEntry.FromSelf j n) at refl refl) refl refl
       entry_gives (ExpressionEntry.FromProgram j n) at =
-          base_gives (ExpressionEntry.FromProgram j n) at (hit (0 ∷ 1 ∷ 2 ∷ 3 ∷ 4 ∷ 6 ∷ 7 ∷ 8 ∷ []) 3 tt) (hit (0 ∷ 1 ∷ 2 ∷ 3 ∷ 4 ∷ 5 ∷ 6 ∷ 8 ∷ []) 3 tt)
-          (λ d q. absurd (let z : ◌≡◌ {A = ℕ} 0 1 = cc in omega arith)) (still (ExpressionEntry.FromProgram j n) at refl refl) refl refl
+          base_gives (ExpressionEntry.FromProgram j n) at (λ d q. cc) (λ m b c q. cc) (still (ExpressionEntry.FromProgram j n) at refl refl) refl refl
       entry_gives (ExpressionEntry.Code k) at =
-          base_gives (ExpressionEntry.Code k) at (hit (0 ∷ 1 ∷ 2 ∷ 3 ∷ 4 ∷ 6 ∷ 7 ∷ 8 ∷ []) 4 tt) (hit (0 ∷ 1 ∷ 2 ∷ 3 ∷ 4 ∷ 5 ∷ 6 ∷ 8 ∷ []) 4 tt)
-          (λ d q. absurd (let z : ◌≡◌ {A = ℕ} 0 1 = cc in omega arith)) (still (ExpressionEntry.Code k) at refl refl) refl refl
+          base_gives (ExpressionEntry.Code k) at (λ d q. cc) (λ m b c q. cc) (still (ExpressionEntry.Code k) at refl refl) refl refl
       entry_gives (ExpressionEntry.Frame d) at = a_frame (rw (tree (ExpressionEntry.Frame d) at) (omega arith))
       entry_gives (ExpressionEntry.Not a) at =
           negated a (still (ExpressionEntry.Not a) at refl refl)
-          (single_is p l h t x checks (ExpressionEntry.Not a) at (hit (0 ∷ 1 ∷ 2 ∷ 3 ∷ 4 ∷ 6 ∷ 7 ∷ 8 ∷ []) 6 tt))
-          (read_made p l h t x w there (ExpressionEntry.Not a) (sym at) (λ d q. absurd (let z : ◌≡◌ {A = ℕ} 0 1 = cc in omega arith)) (hit (0 ∷ 1 ∷ 2 ∷ 3 ∷ 4 ∷ 5 ∷ 6 ∷ 8 ∷ []) 6 tt))
+          (single_is p l h t x checks (ExpressionEntry.Not a) at (λ d q. cc))
+          (read_made p l h t x w there (ExpressionEntry.Not a) (sym at) (λ d q. cc) (λ k b c q. cc))
       entry_gives (ExpressionEntry.Operate k a b) at = operation_gives k a b at
       entry_gives ExpressionEntry.Bad at = absurd ((w.program.entries.expression x there).formed (sym at))
 

@@ -2,7 +2,6 @@
 use Prim.Native.Nat.{ℕ}
 use mathlib.Core.Path.{◌≡◌, refl}
 use mathlib.Core.List.{List, [], ◌∷◌}
-use types.Run.{hit}
 use Rattle.tables.specs.declared.InstructionEntry.{InstructionEntry}
 use Rattle.tables.specs.Entries.{instruction_at}
 use Rattle.heap.specs.Words.{set_end_mark}
@@ -37,15 +36,6 @@ module _ (p h : List ℕ) (i : ℕ) (k : Known) (w : RoomFor p h i k) where
 
   pub room_texts : TextsFull h k.least
   room_texts = room_full.texts
-
--- an entry that is no show, by its tag
-quiet : (e : InstructionEntry) → ((a : ℕ) → e ≡ InstructionEntry.Show a → ⊥) → ((k : ℕ) → e ≡ InstructionEntry.Show k → ⊥)
-quiet (InstructionEntry.AssignSelf j n x) ns = hit (0 ∷ 1 ∷ 3 ∷ 4 ∷ 5 ∷ []) 0 tt
-quiet (InstructionEntry.AssignProgram j n x) ns = hit (0 ∷ 1 ∷ 3 ∷ 4 ∷ 5 ∷ []) 1 tt
-quiet (InstructionEntry.Show a) ns = absurd (ns a refl)
-quiet (InstructionEntry.Jump a c) ns = hit (0 ∷ 1 ∷ 3 ∷ 4 ∷ 5 ∷ []) 3 tt
-quiet (InstructionEntry.Ifeq a c d) ns = hit (0 ∷ 1 ∷ 3 ∷ 4 ∷ 5 ∷ []) 4 tt
-quiet InstructionEntry.Bad ns = hit (0 ∷ 1 ∷ 3 ∷ 4 ∷ 5 ∷ []) 5 tt
 
 module _ (p l h t : List ℕ) (i : ℕ) (can : CanStep p l h t i) (k : Known) (w : RoomFor p h i k) where
   reserves : Reserves p h (frames_for p i) (texts_for p i) 0 h
@@ -82,7 +72,7 @@ module _ (p l h t : List ℕ) (i : ℕ) (can : CanStep p l h t i) (k : Known) (w
       made_quietly ns fit = record {
         with_output = λ out used le.
             attempt_made p l h t i out used (record { step = can; inside = le }) e h room_ends z (Shown.Written 0) out
-            (show_none p l h t i out used (attempt_shows p l h t i out used (record { step = can; inside = le })) (instruction_at p i) refl (quiet (instruction_at p i) ns)) 0 refl h' t' c fit;
+            (show_none p l h t i out used (attempt_shows p l h t i out used (record { step = can; inside = le })) (instruction_at p i) refl ns) 0 refl h' t' c fit;
       }
 
 -- ---- Part by part

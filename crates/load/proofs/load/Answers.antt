@@ -10,11 +10,12 @@ pub returns-in_default : goal.returns-in_default
 returns-in_default c = record { exact = search refused_exact; meaning = search refused_means }
 
 pub install-requires : goal.install-requires
-install-requires c = record {
-  cached = search rules;
-  kept = search (loaded_kept, c.check-answer.ensures.kept, c.in-Loaded.is);
-  can = load_can_install _ _ _ _ _ _ _ c.check-answer.result c.check-answer.ensures.number c.in-Loaded.is;
-}
+install-requires c =
+    record {
+      cached = search rules;
+      kept = search (loaded_kept, c.check-answer.ensures.kept, c.in-Loaded.is);
+      can = load_can_install _ _ _ _ _ _ _ c.check-answer.result c.check-answer.ensures.number c.in-Loaded.is;
+    }
 
 pub returns : goal.returns
 returns c = record { exact = search loaded_exact; meaning = search loaded_means }

@@ -8,7 +8,7 @@ pub reserve_for-s-requires : goal.reserve_for-s-requires
 reserve_for-s-requires c = record { can_reserve = search can_reserve; knows_2 = c.requires.knows_2 }
 
 pub returns-then-full-ne0 : goal.returns-then-full-ne0
-returns-then-full-ne0 c = record { exact = search (full_ended, words_fit {h = c.set_end_mark.new.0} c.slice_known-then-full-ne0-1.given); knows = search full_knows }
+returns-then-full-ne0 c = record { exact = search (full_ended, words_fit {h = c.set_end_mark.new.h} c.type_inv.h); knows = search full_knows }
 
 pub joined-requires : goal.joined-requires
 joined-requires c = record { can_step = search ready_step; i_value = sym c.joins.ensures ∙ c.if-joins.true; room_for = search ready_room }
