@@ -15,7 +15,7 @@ pub attempt-a-requires : goal.attempt-a-requires
 attempt-a-requires c = record { can_attempt = search can_attempt; knows_2 = search rules }
 
 pub returns-in_default : goal.returns-in_default
-returns-in_default c = search (returns_stopped, c.loop-steps.invariant.0, c.loop-steps-test.true, c.end_mark-e.ensures, c.if-e-ne0.false, c.position-z.ensures, c.if-z-eq0.false, c.attempt-a.ensures.exact, c.in_default.keys2, c.stop_after.ensures)
+returns-in_default c = search (returns_stopped, c.loop-steps.invariant.0, c.loop-steps-test.true, c.end_mark-e.ensures, c.if-e-ne0.false, c.position-z.ensures, c.if-z-eq0.false, c.attempt-a.ensures.exact, c.in_default.not-Made, c.stop_after.ensures)
 
 pub overflow_add-used : goal.overflow_add-used
 overflow_add-used c = search (used_fits, c.loop-steps.invariant.0, c.loop-steps-test.true, c.end_mark-e.ensures, c.if-e-ne0.false, c.position-z.ensures, c.if-z-eq0.false, c.attempt-a.ensures.exact, c.in-Made.is, c.well_formed)
