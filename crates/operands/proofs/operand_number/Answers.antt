@@ -8,4 +8,4 @@ returns-then-r-eq6 c = search number_tested
 pub returns : goal.returns
 unfolding word
 returns c =
-    quick_says _ _ _ c.shared_slice_known-2-1.given c.shared_slice_known-1.given _ c.quick-r.ensures c.if-r-eq6.false
+    quick_says _ _ _ c.type_inv.h c.type_inv.p _ c.quick-r.ensures c.if-r-eq6.false

@@ -14,13 +14,13 @@ pub returns-then-x-ge1024 : goal.returns-then-x-ge1024
 returns-then-x-ge1024 c = search quick_past
 
 pub overflow_cast-result : goal.overflow_cast-result
-overflow_cast-result c = omega (arith, c.shared_slice_known-4-1.given (7104 + 5 * c.wide.result + 1))
+overflow_cast-result c = omega (arith, c.type_inv.p (7104 + 5 * c.wide.result + 1))
 
 pub overflow_mul-result : goal.overflow_mul-result
-overflow_mul-result c = omega (arith, c.shared_slice_known-4-1.given (7104 + 5 * c.wide.result + 1))
+overflow_mul-result c = omega (arith, c.type_inv.p (7104 + 5 * c.wide.result + 1))
 
 pub overflow_add-result : goal.overflow_add-result
-overflow_add-result c = omega (arith, c.shared_slice_known-4-1.given (7104 + 5 * c.wide.result + 1))
+overflow_add-result c = omega (arith, c.type_inv.p (7104 + 5 * c.wide.result + 1))
 
 pub returns-then-kind-lt2 : goal.returns-then-kind-lt2
 unfolding word
@@ -29,7 +29,7 @@ returns-then-kind-lt2 c = search quick_literal
 pub overflow_add-j : goal.overflow_add-j
 overflow_add-j c =
     let at = 7104 + 5 * c.wide.result in
-    omega (arith, c.shared_slice_known-then-kind-lt4-1.given (at + 1), c.shared_slice_known-then-kind-lt4-1.given (at + 2))
+    omega (arith, c.type_inv.p (at + 1), c.type_inv.p (at + 2))
 
 pub returns-then-j-n-gt2048 : goal.returns-then-j-n-gt2048
 unfolding word
@@ -40,13 +40,13 @@ unfolding word
 returns-then-kind-lt4 c = search quick_path
 
 pub overflow_cast-result-then-kind-eq4 : goal.overflow_cast-result-then-kind-eq4
-overflow_cast-result-then-kind-eq4 c = omega (arith, c.shared_slice_known-4-1.given (7104 + 5 * c.wide.result + 1))
+overflow_cast-result-then-kind-eq4 c = omega (arith, c.type_inv.p (7104 + 5 * c.wide.result + 1))
 
 pub overflow_mul-result-then-kind-eq4 : goal.overflow_mul-result-then-kind-eq4
-overflow_mul-result-then-kind-eq4 c = omega (arith, c.shared_slice_known-4-1.given (7104 + 5 * c.wide.result + 1))
+overflow_mul-result-then-kind-eq4 c = omega (arith, c.type_inv.p (7104 + 5 * c.wide.result + 1))
 
 pub overflow_add-result-then-kind-eq4 : goal.overflow_add-result-then-kind-eq4
-overflow_add-result-then-kind-eq4 c = omega (arith, c.shared_slice_known-4-1.given (7104 + 5 * c.wide.result + 1))
+overflow_add-result-then-kind-eq4 c = omega (arith, c.type_inv.p (7104 + 5 * c.wide.result + 1))
 
 pub returns-then-kind-eq4 : goal.returns-then-kind-eq4
 unfolding word

@@ -5,7 +5,7 @@ use Rattle.operands.proofs.walk.Goals as goal
 
 pub loop-i-init : goal.loop-i-init
 unfolding word
-loop-i-init c = search (along_start, c.shared_slice_known-4-1.given (c.args.root + 1))
+loop-i-init c = search (along_start, c.type_inv.h (c.args.root + 1))
 
 pub returns-then-tag-lt4 : goal.returns-then-tag-lt4
 returns-then-tag-lt4 c = search walked_low
@@ -34,7 +34,7 @@ unfolding word
 loop-i-preserved c =
     along_again _ _ _ _ _ _ _ _ c.loop-i.invariant c.loop-i-test.true c.if-tag-lt4.false c.if-f-ge256.false _ c.wide.ensures
     c.if-h-a-ne1.false c.if-c-gt16.false c.requires.names_start _ _ c.wide-in-loop-i.ensures c.slot_place-k.ensures c.if-k-eq0.false
-    (c.shared_slice_known-in-loop-i-5-1.given (c.slot_place-k.result + 2))
+    (c.type_inv.h (c.slot_place-k.result + 2))
 
 pub returns-then-tag-gt4 : goal.returns-then-tag-gt4
 returns-then-tag-gt4 c = search walked_high
