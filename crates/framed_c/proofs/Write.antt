@@ -1,6 +1,6 @@
 -- Write for C: one law for each answer. Assumes nothing.
 use mathlib.Core.Path.{◌≡◌, refl, ◌∙◌}
-use mathlib.Core.List.{List, []}
+use mathlib.Core.List.{List}
 use Prim.Native.Nat.{ℕ}
 use Rattle.framed.specs.declared.WriteAnswer.{WriteAnswer}
 use Rattle.answers.specs.Numbers.{write_number}

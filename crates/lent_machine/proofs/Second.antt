@@ -18,7 +18,7 @@ use Rattle.framed.specs.Machine.{State, Effect, gives, ends, Ready, step, after_
 use Rattle.framed.specs.Answers.{Stopped, Report, run_report, collect_report}
 use Rattle.framed.specs.Calls.{frame_total, text_total}
 use Rattle.framed.specs.Alike.{Alike, InReach}
-use Rattle.framed.specs.Demands.{Memories, StopsAfter, reported}
+use Rattle.framed.specs.Demands.{Memories, StopsAfter}
 use Rattle.tables.specs.Fields.{frame_limit, text_limit}
 use Rattle.heap.specs.Held.{frames_in_use, texts_in_use}
 use Rattle.heap.proofs.Held.{frame_counted, text_counted}

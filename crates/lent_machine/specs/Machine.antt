@@ -3,7 +3,7 @@
 use Rattle.std.specs.Prelude.{ℕ, ◌≡◌, List}
 use Rattle.framed.specs.declared.LookAnswer.{LookAnswer}
 use Rattle.framed.specs.Machine.{start}
-use Rattle.framed.specs.Program.{Program, program}
+use Rattle.framed.specs.Program.{Program}
 use Rattle.framed.specs.Alike.{Alike}
 use Rattle.framed.specs.Demands.{Memories, Loading, Running, Collecting, Writing, Counting, LentMachine}
 use Rattle.tables.specs.Fields.{frame_limit, text_limit}
