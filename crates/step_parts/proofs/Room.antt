@@ -1,7 +1,7 @@
 -- A step from words with room for what its instruction makes: check, the line and commit. Assumes nothing.
 use Prim.Native.Nat.{ℕ}
 use mathlib.Core.Path.{◌≡◌, refl}
-use mathlib.Core.List.{List, [], ◌∷◌}
+use mathlib.Core.List.{List, []}
 use Rattle.tables.specs.declared.InstructionEntry.{InstructionEntry}
 use Rattle.tables.specs.Entries.{instruction_at}
 use Rattle.heap.specs.Words.{set_end_mark}

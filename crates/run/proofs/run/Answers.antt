@@ -5,7 +5,7 @@ pub returns-then-not-well_formed : goal.returns-then-not-well_formed
 returns-then-not-well_formed c = record { exact = search refused_exact; meaning = search refused_means }
 
 pub run_steps-requires : goal.run_steps-requires
-run_steps-requires c = search (formed_here, c.if-not-well_formed.false, c.well_formed-2.ensures)
+run_steps-requires c = search (formed_here, c.well_formed-2.ensures)
 
 pub returns : goal.returns
 returns c = record { exact = search ran_exact; meaning = search ran_means }
