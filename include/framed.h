@@ -99,7 +99,7 @@ enum {
 /* Loads a source with the limits F (frames) and T (texts): the memories then hold its program at its start. What they held
  * before does not matter. Answers FRAMED_LOADED, or the lowest number from 1 to 12 that holds; then nothing is written.
  * The place of a refusal in the source is what the command `framed check MODEL` tells.
- * Stack: at most 170,144 bytes, at the deepest nesting; a level of code takes 1,792 of them. */
+ * Stack: at most 164,752 bytes, at the deepest nesting; a level of code takes 1,472 of them. */
 uint32_t framed_load(const uint8_t *source, size_t source_length, uint32_t frames, uint32_t texts,
                      uint32_t *program, size_t program_length, uint32_t *heap, size_t heap_length,
                      uint8_t *literals, size_t literals_length, uint8_t *text_bytes, size_t text_length);
@@ -108,7 +108,7 @@ uint32_t framed_load(const uint8_t *source, size_t source_length, uint32_t frame
  * Answers why it stopped; *steps and *bytes become the steps made and the bytes written. After an end from 31 to 37 the
  * memories keep it, and every later run answers it again. With FRAMED_NOT_WHOLE nothing is written, *steps and *bytes
  * included.
- * Stack: at most 16,776 bytes over program words that load wrote, 321,976 over any memories, which may nest frames and code
+ * Stack: at most 16,776 bytes over program words that load wrote, 189,808 over any memories, which may nest frames and code
  * deeper than a source. */
 uint32_t framed_run(const uint32_t *program, size_t program_length, uint32_t *heap, size_t heap_length,
                     const uint8_t *literals, size_t literals_length, uint8_t *text_bytes, size_t text_length,
@@ -150,7 +150,7 @@ uint32_t framed_makers(const uint32_t *program, size_t program_length, const uin
  * FRAMED_WRITTEN; with FRAMED_SHORT_BUFFER or FRAMED_NOT_WHOLE nothing is written, *length included. For memories that load
  * made, with any runs and collects since, FRAMED_TEXT_BUFFER bytes are enough; others may have a text of any length, of
  * which no more is looked at than the buffer is long.
- * Stack: at most 31,729 bytes over program words that load wrote, 340,612 over any memories, which may nest frames and code
+ * Stack: at most 31,729 bytes over program words that load wrote, 184,688 over any memories, which may nest frames and code
  * deeper than a source. */
 uint32_t framed_write(const uint32_t *program, size_t program_length, const uint32_t *heap, size_t heap_length,
                       const uint8_t *literals, size_t literals_length, const uint8_t *text_bytes, size_t text_length,
