@@ -53,6 +53,13 @@ module _ (z : ℤ) where
   unfolding ranged
   exact_inside y q e f = rw (q, lt-ltb (mag z) (2 ^ 31) (small z e f))
 
+-- the same of a number in 64 bits, as the code tests it
+pub exact_low : {z : ℤ} → SFits w64 z → lt_z (to_z w64 (of_z w64 z)) (negsuc 2147483647) ≡ true → outcome (Arithmetic.Ended 33) ≡ ranged z
+exact_low {z} f e = exact_below z (low f e)
+
+pub exact_high : {z : ℤ} → SFits w64 z → lt_z (pos 2147483647) (to_z w64 (of_z w64 z)) ≡ true → outcome (Arithmetic.Ended 33) ≡ ranged z
+exact_high {z} f e = exact_above z (high f e)
+
 -- ---- over
 
 -- the bits are 0 exactly where the number is

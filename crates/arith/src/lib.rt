@@ -15,6 +15,7 @@ pub enum Arithmetic {
 }
 
 // The number, where it fits 32 bits; else end 33.
+#[tactic(auto, using(crate::proofs::Laws::exact_low, crate::proofs::Laws::exact_high))]
 fn exact(n: i64) -> Arithmetic
     ensures { outcome result ≡ ranged n }
 {

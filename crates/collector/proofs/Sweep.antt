@@ -76,6 +76,15 @@ module _ (m h₀ h : List ℕ) (i : ℕ) where
       → Sweep free_text (text_unmarked m) h₀ h' (i + 1)
   texts_clear s lt o h₁ h' e e' = sweep_on free_text (text_unmarked m) h₀ h i s h' lt (ap length (e' ∙ e) ∙ free_text_size h i) (rw o (e' ∙ e))
 
+module _ (m h₀ h h' : List ℕ) (i j : ℕ) (s : Sweep free_frame (frame_unmarked m) h₀ h i) (lt : i < 256) (q : j ≡ i) where
+  -- by what the code reads of the frame's mark
+  pub frame_freed : get_or m j 0 ≡ 0 → (h₁ : List ℕ) → h₁ ≡ free_frame h i → h' ≡ h₁ → Sweep free_frame (frame_unmarked m) h₀ h' (i + 1)
+  frame_freed z h₁ e e' = frames_clear m h₀ h i s lt (frame_off m h₀ h i j q z) h₁ h' e e'
+
+  pub frame_kept : (get_or m j 0 ≡ 0 → ⊥) → h' ≡ h → Sweep free_frame (frame_unmarked m) h₀ h' (i + 1)
+  frame_kept z e = sweep_keep free_frame (frame_unmarked m) h₀ h i s h' lt (frame_on m h₀ h i j q z) e
+
+module _ (m h₀ h : List ℕ) (i : ℕ) where
   pub frames_done : Sweep free_frame (frame_unmarked m) h₀ h i → 256 ≤ i → h ≡ sweep_frames m h₀
   unfolding sweep_frames
   frames_done s le = sweep_end free_frame (frame_unmarked m) h₀ h i s le

@@ -22,6 +22,7 @@ pub struct Findings {
 }
 
 // Keeps a token of kind k, a name with its number, where at most 128 names are kept before: the number, else 255.
+#[tactic(auto, using(crate::proofs::Laws::taken_name))]
 fn take(
     c: &mut [u64; 16384],
     s: &[u8],

@@ -1,7 +1,7 @@
-use Rattle.survey.proofs.Laws.{take_few, take_marked, take_numbered, take_small, take_store, taken_name, taken_many, taken_other}
+use native.Mathlib.Omega.{arith}
+use Rattle.survey.proofs.Laws.{take_few, take_marked, take_numbered, take_small, take_store, taken_many, taken_other}
 use borrow.Author.Rules.{rules}
 use Rattle.survey.proofs.take.Goals as goal
-use Rattle.survey.proofs.take.Goals.{else-k-eq25, then-k-eq25+else-n-le128}
 
 pub number-j-requires : goal.number-j-requires
 number-j-requires c = record { few = take_few _ _ _ _ _ _ _ _ _ _ _ c.requires (search rules); marked = take_marked _ _ _ _ _ _ _ _ _ _ _ c.requires (search rules); numbered = search take_numbered }
@@ -12,8 +12,5 @@ overflow_add-j c = search (rules, take_small _ _ _ _ _ _ _ _ _ _ _ c.requires _ 
 pub store_name-requires : goal.store_name-requires
 store_name-requires c = search take_store
 
-pub returns-then-n-le128 : goal.returns-then-n-le128
-returns-then-n-le128 c = record { cached = search rules; taken = taken_name _ _ _ _ _ _ _ _ _ _ _ c.requires _ _ _ _ (search rules) c.number-j.ensures (search c.if-k-eq25.true) _ c.store_name.ensures.entry c.store_name.ensures.notes }
-
 pub returns : goal.returns
-returns c = record { cached = search rules; taken = elim c.if-k-eq25.branch [ then-k-eq25+else-n-le128 w ↦ search taken_many | else-k-eq25 w ↦ search taken_other ] }
+returns c = record { cached = search rules; taken = grind (arith, taken_many, taken_other) }
