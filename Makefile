@@ -30,8 +30,8 @@ help:
 	@echo '  install-library, install-programs    the two halves of it: the first needs no cargo'
 	@echo '  uninstall  takes them away again'
 	@echo
-	@echo 'Times on two cores: the library from nothing about 10 minutes, everything (check) about 12, the whole'
-	@echo 'gate (prove) about 35. Later checks only look at what changed.'
+	@echo 'Times on two cores, of the older kit: the library from nothing about 10 minutes, everything (check) about 12, the whole'
+	@echo 'gate (prove) about 35. Later runs only look at what changed.'
 	@echo 'examples, test and install take the library and the programs that are there, and build what is missing:'
 	@echo 'after a change make library, programs and command first.'
 
