@@ -299,44 +299,49 @@ def keep_imports(imports, text):
     return out
 
 
-def main(argv):
-    names, crates = argv[0], argv[1:]
+def proofs_of(argv, pattern):
+    """Each proof file of the named crates that fits the pattern, with its crate, what rt names says of that, and the names of clauses."""
     clauses = clause_names(".")
-    for crate in crates:
-        data = find(names, crate)
+    for crate in argv[1:]:
+        data = find(argv[0], crate)
         if data is None:
             print(f"look: {crate}: no names")
             continue
-        for p in sorted(glob.glob(f"crates/{crate}/proofs/**/Proof.antt", recursive=True)):
-            folder = os.path.dirname(p)[len(f"crates/{crate}/proofs/") :]
-            if folder.startswith("+"):
-                print(f"look: {crate}/{folder[:60]}: a cycle")
-                continue
-            key = f"Rattle-{crate}-proofs.{folder.replace('/', '.')}.Lts"
-            if key not in data:
-                print(f"look: {crate}/{folder}: no names of it")
-                continue
-            imports, helpers, out, inv, looks, cons = turn(crate, folder, p, data[key], clauses)
-            for l in looks:
-                print(f"look: {crate}/{folder}: {l}")
-            d = os.path.dirname(p)
-            os.remove(p)
-            mod = folder.replace("/", ".")
-            if inv:
-                t = "\n\n".join(inv)
-                # helpers that an invariant names stay with it
-                mine = [h for h in helpers if re.match(r"(?:pub |abbrev |unfoldable )*(" + NAME + ")", h.split("\n")[-1] if False else h) and any(w in TOKEN.findall(t) for w in re.findall(r"(?m)^(?:pub |abbrev |unfoldable )*(" + NAME + r") ", h)[:1])]
-                body = "\n\n".join(mine + [t])
-                head = keep_imports(imports, body) + [f"use Rattle.{crate}.proofs.{mod}.Given as goal"]
-                open(f"{d}/Invariants.antt", "w").write("\n".join(head) + "\n\n" + body + "\n")
-            if out:
-                body = "\n\n".join(helpers + out)
-                head = keep_imports(imports, body) + [f"use Rattle.{crate}.proofs.{mod}.Goals as goal"]
-                if cons:
-                    head.append(f"use Rattle.{crate}.proofs.{mod}.Goals.{{{', '.join(cons)}}}")
-                open(f"{d}/Answers.antt", "w").write("\n".join(head) + "\n\n" + body + "\n")
-            if not inv and not out:
-                os.rmdir(d)
+        for p in sorted(glob.glob(f"crates/{crate}/proofs/{pattern}", recursive=True)):
+            yield crate, data, clauses, p
+
+
+def main(argv):
+    for crate, data, clauses, p in proofs_of(argv, "**/Proof.antt"):
+        folder = os.path.dirname(p)[len(f"crates/{crate}/proofs/") :]
+        if folder.startswith("+"):
+            print(f"look: {crate}/{folder[:60]}: a cycle")
+            continue
+        key = f"Rattle-{crate}-proofs.{folder.replace('/', '.')}.Lts"
+        if key not in data:
+            print(f"look: {crate}/{folder}: no names of it")
+            continue
+        imports, helpers, out, inv, looks, cons = turn(crate, folder, p, data[key], clauses)
+        for l in looks:
+            print(f"look: {crate}/{folder}: {l}")
+        d = os.path.dirname(p)
+        os.remove(p)
+        mod = folder.replace("/", ".")
+        if inv:
+            t = "\n\n".join(inv)
+            # helpers that an invariant names stay with it
+            mine = [h for h in helpers if re.match(r"(?:pub |abbrev |unfoldable )*(" + NAME + ")", h.split("\n")[-1] if False else h) and any(w in TOKEN.findall(t) for w in re.findall(r"(?m)^(?:pub |abbrev |unfoldable )*(" + NAME + r") ", h)[:1])]
+            body = "\n\n".join(mine + [t])
+            head = keep_imports(imports, body) + [f"use Rattle.{crate}.proofs.{mod}.Given as goal"]
+            open(f"{d}/Invariants.antt", "w").write("\n".join(head) + "\n\n" + body + "\n")
+        if out:
+            body = "\n\n".join(helpers + out)
+            head = keep_imports(imports, body) + [f"use Rattle.{crate}.proofs.{mod}.Goals as goal"]
+            if cons:
+                head.append(f"use Rattle.{crate}.proofs.{mod}.Goals.{{{', '.join(cons)}}}")
+            open(f"{d}/Answers.antt", "w").write("\n".join(head) + "\n\n" + body + "\n")
+        if not inv and not out:
+            os.rmdir(d)
 
 
 if __name__ == "__main__":
