@@ -1,6 +1,8 @@
 -- Documents 01 and 02: what the calls answer, in the document's numbers and words, and the number or word of each case of the crate's answer enums.
 -- Promises about an answer go through these definitions. Assumes nothing.
-use Rattle.std.specs.Prelude.{List, ℕ, ℤ, take}
+use Rattle.std.specs.Prelude.{List, ℕ, ℤ, take, Result, Ok, Err}
+use Rattle.framed.specs.declared.End.{End}
+use Rattle.framed.specs.declared.LoadRefusal.{LoadRefusal}
 use Rattle.framed.specs.declared.LoadAnswer.{LoadAnswer}
 use Rattle.framed.specs.declared.Stop.{Stop}
 use Rattle.framed.specs.declared.RunAnswer.{RunAnswer}
@@ -24,6 +26,41 @@ load_number LoadAnswer.CountLimit = 9
 load_number LoadAnswer.AboveProgram = 10
 load_number LoadAnswer.NoStart = 11
 load_number LoadAnswer.WrittenFrames = 12
+
+-- the ends of a step, 31 to 37
+abbrev pub end_number : End → ℕ
+end_number End.NoRule = 31
+end_number End.DivisorZero = 32
+end_number End.IntegerRange = 33
+end_number End.TextLength = 34
+end_number End.SlotLimit = 35
+end_number End.FramesFull = 36
+end_number End.TextsFull = 37
+
+-- the end that a test meets, 0 where it meets none
+abbrev pub end_met : {A : Type 0} → Result A End → ℕ
+end_met (Ok _) = 0
+end_met (Err e) = end_number e
+
+-- the refusals of load, 1 to 12
+abbrev pub load_refusal_number : LoadRefusal → ℕ
+load_refusal_number LoadRefusal.MemoryLength = 1
+load_refusal_number LoadRefusal.LimitRange = 2
+load_refusal_number LoadRefusal.SourceLength = 3
+load_refusal_number LoadRefusal.NoToken = 4
+load_refusal_number LoadRefusal.Nesting = 5
+load_refusal_number LoadRefusal.NotOneFrame = 6
+load_refusal_number LoadRefusal.OutsideCode = 7
+load_refusal_number LoadRefusal.BadFrame = 8
+load_refusal_number LoadRefusal.CountLimit = 9
+load_refusal_number LoadRefusal.AboveProgram = 10
+load_refusal_number LoadRefusal.NoStart = 11
+load_refusal_number LoadRefusal.WrittenFrames = 12
+
+-- the number that refuses, 0 where none does
+abbrev pub load_refused : {A : Type 0} → Result A LoadRefusal → ℕ
+load_refused (Ok _) = 0
+load_refused (Err r) = load_refusal_number r
 
 -- how a run stops: with an end (0 done, 31 to 37), with 'fuel' or with 'output'
 pub data Stopped : Type 0 where

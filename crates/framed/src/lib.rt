@@ -17,6 +17,35 @@ pub enum Value {
     Frame(u32),
 }
 
+// Which end a step meets: document 01's numbers 31 to 37, in their order.
+#[derive(Clone, Copy, PartialEq, Eq)]
+pub enum End {
+    NoRule,
+    DivisorZero,
+    IntegerRange,
+    TextLength,
+    SlotLimit,
+    FramesFull,
+    TextsFull,
+}
+
+// Why load refuses a source: document 01's numbers 1 to 12, in their order.
+#[derive(Clone, Copy, PartialEq, Eq)]
+pub enum LoadRefusal {
+    MemoryLength,
+    LimitRange,
+    SourceLength,
+    NoToken,
+    Nesting,
+    NotOneFrame,
+    OutsideCode,
+    BadFrame,
+    CountLimit,
+    AboveProgram,
+    NoStart,
+    WrittenFrames,
+}
+
 // What load answers: loaded, or why not.
 #[derive(Clone, Copy)]
 pub enum LoadAnswer {
