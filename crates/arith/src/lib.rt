@@ -1,4 +1,4 @@
-// Integers of 32 bits with exact results: the work is done in 64 bits, and what does not fit ends 33.
+// Integers of 32 bits with exact results: what does not fit ends 33.
 #![tactic(auto)]
 
 ghost use Rattle.std.specs.Prelude.{◌≡◌, ◌+ℤ◌, ◌-ℤ◌, ◌*ℤ◌};
@@ -7,53 +7,34 @@ ghost use Rattle.framed.specs.Values.{same_integer};
 ghost use Rattle.bounded.specs.Operations.{ranged};
 ghost use Rattle.arith.specs.Arith.{outcome, divided, nonzero};
 
-// What an integer operator gives: an integer, or the end 32 or 33.
-#[derive(Clone, Copy)]
-pub enum Arithmetic {
-    Integer(i32),
-    Ended(u32),
-}
+use framed::End;
 
-// The number, where it fits 32 bits; else end 33.
-#[tactic(auto, using(crate::proofs::Laws::exact_low, crate::proofs::Laws::exact_high))]
-fn exact(n: i64) -> Arithmetic
-    ensures { outcome result ≡ ranged n }
-{
-    if n < -2147483648 {
-        return Arithmetic::Ended(33);
-    }
-    if 2147483647 < n {
-        return Arithmetic::Ended(33);
-    }
-    Arithmetic::Integer(n as i32)
-}
-
-pub fn plus(a: i32, b: i32) -> Arithmetic
+pub fn plus(a: i32, b: i32) -> Result<i32, End>
     ensures { outcome result ≡ ranged (a +ℤ b) }
 {
-    exact((a as i64) + (b as i64))
+    a.checked_add(b).ok_or(End::IntegerRange)
 }
 
-pub fn minus(a: i32, b: i32) -> Arithmetic
+pub fn minus(a: i32, b: i32) -> Result<i32, End>
     ensures { outcome result ≡ ranged (a -ℤ b) }
 {
-    exact((a as i64) - (b as i64))
+    a.checked_sub(b).ok_or(End::IntegerRange)
 }
 
-pub fn times(a: i32, b: i32) -> Arithmetic
+pub fn times(a: i32, b: i32) -> Result<i32, End>
     ensures { outcome result ≡ ranged (a *ℤ b) }
 {
-    exact((a as i64) * (b as i64))
+    a.checked_mul(b).ok_or(End::IntegerRange)
 }
 
 // Rounds towards zero; a divisor of 0 ends 32.
-pub fn over(a: i32, b: i32) -> Arithmetic
+pub fn over(a: i32, b: i32) -> Result<i32, End>
     ensures { outcome result ≡ divided a b }
 {
     if b == 0 {
-        return Arithmetic::Ended(32);
+        return Err(End::DivisorZero);
     }
-    exact((a as i64) / (b as i64))
+    a.checked_div(b).ok_or(End::IntegerRange)
 }
 
 pub fn less(a: i32, b: i32) -> bool

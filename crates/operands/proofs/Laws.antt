@@ -6,6 +6,7 @@ use lib.IntN.{ℤ, pos}
 use mir.Syntax.{w32}
 use mir.Val.{to_z, of_z}
 use mir.ValLaws.{to_z-of_z}
+use Rattle.std.specs.Prelude.{Option, Some}
 use Rattle.framed.specs.declared.Text.{Text}
 use Rattle.framed.specs.declared.Value.{Value}
 use Rattle.framed.specs.Fetch.{fetch}
@@ -16,7 +17,6 @@ use Rattle.tables.specs.declared.ExpressionEntry.{ExpressionEntry}
 use Rattle.tables.specs.Entries.{expression_at}
 use Rattle.heap.specs.Words.{self_held, program_held}
 use Rattle.heap.specs.Held.{frames_held}
-use Rattle.paths.specs.declared.Fetched.{Fetched}
 use Rattle.paths.specs.Paths.{fetched, path_held}
 use Rattle.trees.specs.Trees.{Readers, levels, one_level, base_tree}
 use Rattle.trees.specs.Held.{base_held}
@@ -39,30 +39,30 @@ module _ (p h : List ℕ) (x : ℕ) (e : ExpressionEntry) (at : e ≡ expression
   is_integer w is = rw (open_value (ExpressionEntry.Integer w) is)
 
   pub operand_integer : (w : ℕ) (z : ℤ) → e ≡ ExpressionEntry.Integer w → z ≡ int_of w
-      → defined (fetched (Fetched.Found (Value.Int (to_z w32 (of_z w32 z))))) ≡ operand_value p h x
+      → defined (fetched (Some (Value.Int (to_z w32 (of_z w32 z))))) ≡ operand_value p h x
   unfolding defined
   operand_integer w z is ez = rw (is_integer w is, ez, to_z-of_z w32 (int_of w) (int_fits w))
 
-  pub operand_literal : (k : ℕ) → e ≡ ExpressionEntry.Literal k → defined (fetched (Fetched.Found (Value.Text (Text.Literal k)))) ≡ operand_value p h x
+  pub operand_literal : (k : ℕ) → e ≡ ExpressionEntry.Literal k → defined (fetched (Some (Value.Text (Text.Literal k)))) ≡ operand_value p h x
   unfolding base_value base_tree defined
   operand_literal k is = rw (open_value (ExpressionEntry.Literal k) is)
 
-  pub operand_code : (k : ℕ) → e ≡ ExpressionEntry.Code k → defined (fetched (Fetched.Found (Value.Code k))) ≡ operand_value p h x
+  pub operand_code : (k : ℕ) → e ≡ ExpressionEntry.Code k → defined (fetched (Some (Value.Code k))) ≡ operand_value p h x
   unfolding base_value base_tree defined
   operand_code k is = rw (open_value (ExpressionEntry.Code k) is)
 
-  pub operand_self : (j n : ℕ) (r : Fetched) → e ≡ ExpressionEntry.FromSelf j n
+  pub operand_self : (j n : ℕ) (r : Option Value) → e ≡ ExpressionEntry.FromSelf j n
       → fetched r ≡ fetch (frames_held h) (self_held h) (path_held p j n) → defined (fetched r) ≡ operand_value p h x
   unfolding base_value base_tree
   operand_self j n r is er = rw (open_value (ExpressionEntry.FromSelf j n) is, same_path p j n, er)
 
-  pub operand_program : (j n : ℕ) (r : Fetched) → e ≡ ExpressionEntry.FromProgram j n
+  pub operand_program : (j n : ℕ) (r : Option Value) → e ≡ ExpressionEntry.FromProgram j n
       → fetched r ≡ fetch (frames_held h) (program_held h) (path_held p j n) → defined (fetched r) ≡ operand_value p h x
   unfolding base_value base_tree
   operand_program j n r is er = rw (open_value (ExpressionEntry.FromProgram j n) is, same_path p j n, er)
 
   -- a path fetched from a value
-  module _ (j n : ℕ) (v : Value) (r : Fetched) (er : fetched r ≡ fetch (frames_held h) v (path_held p j n)) where
+  module _ (j n : ℕ) (v : Value) (r : Option Value) (er : fetched r ≡ fetch (frames_held h) v (path_held p j n)) where
     pub fetched_self : e ≡ ExpressionEntry.FromSelf j n → v ≡ self_held h → defined (fetched r) ≡ operand_value p h x
     fetched_self is ev = operand_self j n r is (rw ev at er)
 
@@ -70,18 +70,18 @@ module _ (p h : List ℕ) (x : ℕ) (e : ExpressionEntry) (at : e ≡ expression
     fetched_program is ev = operand_program j n r is (rw ev at er)
 
   -- an entry that is no base
-  pub operand_frame : (d : ℕ) → e ≡ ExpressionEntry.Frame d → defined (fetched (Fetched.Found (Value.Int (pos 0)))) ≡ operand_value p h x
+  pub operand_frame : (d : ℕ) → e ≡ ExpressionEntry.Frame d → defined (fetched (Some (Value.Int (pos 0)))) ≡ operand_value p h x
   unfolding base_value base_tree defined
   operand_frame d is = rw (open_value (ExpressionEntry.Frame d) is)
 
-  pub operand_not : (a : ℕ) → e ≡ ExpressionEntry.Not a → defined (fetched (Fetched.Found (Value.Int (pos 0)))) ≡ operand_value p h x
+  pub operand_not : (a : ℕ) → e ≡ ExpressionEntry.Not a → defined (fetched (Some (Value.Int (pos 0)))) ≡ operand_value p h x
   unfolding base_value base_tree defined
   operand_not a is = rw (open_value (ExpressionEntry.Not a) is)
 
-  pub operand_operate : (o a b : ℕ) → e ≡ ExpressionEntry.Operate o a b → defined (fetched (Fetched.Found (Value.Int (pos 0)))) ≡ operand_value p h x
+  pub operand_operate : (o a b : ℕ) → e ≡ ExpressionEntry.Operate o a b → defined (fetched (Some (Value.Int (pos 0)))) ≡ operand_value p h x
   unfolding base_value base_tree defined
   operand_operate o a b is = rw (open_value (ExpressionEntry.Operate o a b) is)
 
-  pub operand_bad : e ≡ ExpressionEntry.Bad → defined (fetched (Fetched.Found (Value.Int (pos 0)))) ≡ operand_value p h x
+  pub operand_bad : e ≡ ExpressionEntry.Bad → defined (fetched (Some (Value.Int (pos 0)))) ≡ operand_value p h x
   unfolding base_value base_tree defined
   operand_bad is = rw (open_value ExpressionEntry.Bad is)

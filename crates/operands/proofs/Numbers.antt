@@ -3,7 +3,7 @@ use Prim.Native.Nat.{ℕ, zero, suc, ◌+◌, ◌-◌, ◌*◌, ◌/◌, ◌%◌
 use mathlib.Core.Path.{◌≡◌, refl, ◌∙◌, ap, sym, subst}
 use mathlib.Core.Bool.{Bool, true, false, not}
 use mathlib.Core.List.{List, [], ◌∷◌}
-use mathlib.Core.Option.{Option, some}
+use mathlib.Core.Option.{Option as Optional, some}
 use native.Mathlib.Omega.{arith}
 use native.Mathlib.Decide.{ℕ_discrete, dec_le, dec_lt}
 use native.Mathlib.Numerals.{add-one}
@@ -16,6 +16,7 @@ use denote.Laws.{Is}
 use denote.Enum.Declared.{row}
 use denote.Enum.Laws.{owed}
 use borrow.Author.Tests.{lt-ltb, le-ltb, le-leb, lt-leb, eq-eqb, ne_eqb}
+use Rattle.std.specs.Prelude.{Option, Some, None}
 use Rattle.framed.specs.declared.Text.{Text}
 use Rattle.framed.specs.declared.Value.{Value}
 use Rattle.framed.specs.Fetch.{frame_of, get, fetch, ◌>>=◌}
@@ -33,8 +34,6 @@ use Rattle.heap.specs.Held.{slots_held, frames_held}
 use Rattle.heap.specs.Closed.{ValueFits}
 use Rattle.heap.proofs.Lists.{listed_at}
 use Rattle.heap.proofs.Laws.{value_back}
-use Rattle.paths.specs.declared.SlotFound.{SlotFound}
-use Rattle.paths.specs.declared.Fetched.{Fetched}
 use Rattle.paths.specs.Paths.{slot_from, fetched, path_held}
 use Rattle.paths.proofs.Laws.{Find, find_start, find_gone, find_here, find_again, get_past, get_free, get_missing, get_found}
 use Rattle.paths.proofs.Laws.{path_length}
@@ -43,7 +42,7 @@ use Rattle.operands.proofs.Laws.{is_integer, operand_literal, operand_self, oper
 
 -- ---- Values as numbers
 
-pub number_value : (t f : ℕ) → t ≤ 4 → Fits w32 f → unpacked (f * 8 + t) ≡ Fetched.Found (value_of t f)
+pub number_value : (t f : ℕ) → t ≤ 4 → Fits w32 f → unpacked (f * 8 + t) ≡ Some (value_of t f)
 unfolding unpacked
 number_value t f le lt =
     let m : (f * 8 + t) % 8 ≡ t = omega arith in
@@ -72,9 +71,9 @@ tag_small (Value.Text t) = text_tag_small t
 tag_small (Value.Code k) = omega arith
 tag_small (Value.Frame n) = omega arith
 
-pub packed_value : (v : Value) (vs : List Val) → Is (row the_type) v vs → (r : Fetched) → r ≡ Fetched.Found v → (m t : ℕ) → m ≡ number_of v → t ≡ tag_of v → Fits w32 m → unpacked (m * 8 + t) ≡ r
+pub packed_value : (v : Value) (vs : List Val) → Is (row the_type) v vs → (r : Option Value) → r ≡ Some v → (m t : ℕ) → m ≡ number_of v → t ≡ tag_of v → Fits w32 m → unpacked (m * 8 + t) ≡ r
 packed_value v vs is r er m t em et fits =
-    rw (er, number_value t m (rw et (tag_small v)) fits) (ap Fetched.Found (rw (em, et) (value_back v (typed_fits v vs is))))
+    rw (er, number_value t m (rw et (tag_small v)) fits) (ap Some (rw (em, et) (value_back v (typed_fits v vs is))))
 
 -- ---- slot_place
 
@@ -131,7 +130,7 @@ module _ (h : List ℕ) (a n x end k : ℕ) (s : Seek h a n x end k) where
 -- ---- walk
 
 -- not a frame
-low_none : (h : List ℕ) (tag f x : ℕ) → tag < 4 → fetched Fetched.Undefined ≡ get (frames_held h) (value_of tag f) x
+low_none : (h : List ℕ) (tag f x : ℕ) → tag < 4 → fetched None ≡ get (frames_held h) (value_of tag f) x
 unfolding value_of get frame_of ◌>>=◌
 low_none h zero f x lt = refl
 low_none h (suc zero) f x lt = refl
@@ -297,18 +296,18 @@ not_six P true v q ne = q ne
 not_six P false v q ne = absurd (ne refl)
 
 -- one name: from the slot's value on it is r, which stands for what is left to fetch
-module _ (h : List ℕ) (x tag f r : ℕ) (left : Value → Option Value) where
+module _ (h : List ℕ) (x tag f r : ℕ) (left : Value → Optional Value) where
   abbrev slot : ℕ
   slot = place_in h f x
 
   abbrev Means : ℕ → Type 0
   Means v = fetched (unpacked v) ≡ ◌>>=◌ (get (frames_held h) (value_of tag f) x) left
 
-  means_none : fetched Fetched.Undefined ≡ get (frames_held h) (value_of tag f) x → Means 5
+  means_none : fetched None ≡ get (frames_held h) (value_of tag f) x → Means 5
   unfolding unpacked ◌>>=◌
   means_none e = rw (← e)
 
-  means_some : (v : Value) → fetched (Fetched.Found v) ≡ get (frames_held h) (value_of tag f) x → fetched (unpacked r) ≡ left v → Means r
+  means_some : (v : Value) → fetched (Some v) ≡ get (frames_held h) (value_of tag f) x → fetched (unpacked r) ≡ left v → Means r
   unfolding ◌>>=◌
   means_some v e q = rw (← e) q
 
@@ -317,18 +316,18 @@ module _ (h : List ℕ) (x tag f r : ℕ) (left : Value → Option Value) where
   unfolding place_in place_of slot_value_at slot_tag_at slot_number_at
   means_slot le lf u q = go (slot_from (slots_held h f) x 0) refl
     where
-      go : (s : SlotFound) → s ≡ slot_from (slots_held h f) x 0 → (pick (eqb slot 0) 5 r ≡ 6 → ⊥) → Means (pick (eqb slot 0) 5 r)
-      go SlotFound.Missing e ne =
+      go : (s : Option ℕ) → s ≡ slot_from (slots_held h f) x 0 → (pick (eqb slot 0) 5 r ≡ 6 → ⊥) → Means (pick (eqb slot 0) 5 r)
+      go None e ne =
           let z : slot ≡ 0 = ap (place_of (131 + 51 * f)) (sym e) in
-          rw (eq-eqb slot 0 z) (means_none (get_missing h x (value_of tag f) f (high_frame tag f le) lf (frame_used h f) refl (ap not u) SlotFound.Missing e refl))
-      go (SlotFound.At m) e ne =
+          rw (eq-eqb slot 0 z) (means_none (get_missing h x (value_of tag f) f (high_frame tag f le) lf (frame_used h f) refl (ap not u) None e refl))
+      go (Some m) e ne =
           let z : slot ≡ 131 + 51 * f + 3 * m = ap (place_of (131 + 51 * f)) (sym e) in
           let t : slot + 1 ≡ 132 + 51 * f + 3 * m = omega arith in
           let o : slot + 2 ≡ 133 + 51 * f + 3 * m = omega arith in
           let v : value_of (word h (slot + 1)) (word h (slot + 2)) ≡ slot_value_at h f m = rw (t, o) in
           let b = ne_eqb slot 0 (λ y. omega arith) in
           rw b
-          (means_some _ (get_found h x (value_of tag f) f (high_frame tag f le) lf (frame_used h f) refl (ap not u) (SlotFound.At m) e m _ refl v)
+          (means_some _ (get_found h x (value_of tag f) f (high_frame tag f le) lf (frame_used h f) refl (ap not u) (Some m) e m _ refl v)
           (q (rw b at ne)))
 
   means_name : ((r ≡ 6 → ⊥) → fetched (unpacked r) ≡ left (value_of (word h (slot + 1)) (word h (slot + 2))))
@@ -368,7 +367,7 @@ module _ (p h : List ℕ) (x : ℕ) (fits : (k : ℕ) → Fits w32 (word h k)) w
   Says v = defined (fetched (unpacked v)) ≡ operand_value p h x
 
   module _ (a b : ℕ) (small : Fits w32 a) where
-    value_is : (k : ℕ) → k ≤ 4 → defined (fetched (Fetched.Found (value_of k a))) ≡ operand_value p h x → Says (a * 8 + k)
+    value_is : (k : ℕ) → k ≤ 4 → defined (fetched (Some (value_of k a))) ≡ operand_value p h x → Says (a * 8 + k)
     value_is k le e = rw (number_value k a le small) e
 
     path_means : (root : ℕ) → (path_number p h root a b ≡ 6 → ⊥)
@@ -430,14 +429,14 @@ module _ (p h : List ℕ) (x : ℕ) (fits : (k : ℕ) → Fits w32 (word h k)) w
 -- ---- operand_number, operand
 
 module _ (p h : List ℕ) (x : ℕ) where
-  pub number_tested : (s : ℕ) (r : Fetched) → unpacked s ≡ r → defined (fetched r) ≡ operand_value p h x → defined (fetched (unpacked s)) ≡ operand_value p h x
+  pub number_tested : (s : ℕ) (r : Option Value) → unpacked s ≡ r → defined (fetched r) ≡ operand_value p h x → defined (fetched (unpacked s)) ≡ operand_value p h x
   number_tested s r e er = rw e er
 
   module _ (s : ℕ) (es : defined (fetched (unpacked s)) ≡ operand_value p h x) where
-    pub number_none : s ≡ 5 → defined (fetched Fetched.Undefined) ≡ operand_value p h x
+    pub number_none : s ≡ 5 → defined (fetched None) ≡ operand_value p h x
     unfolding unpacked
     number_none e = rw (eq-eqb s 5 e) at es
 
-    pub number_some : (s ≡ 5 → ⊥) → (v : Value) → v ≡ value_of (s % 8) (s / 8 % 4294967296) → defined (fetched (Fetched.Found v)) ≡ operand_value p h x
+    pub number_some : (s ≡ 5 → ⊥) → (v : Value) → v ≡ value_of (s % 8) (s / 8 % 4294967296) → defined (fetched (Some v)) ≡ operand_value p h x
     unfolding unpacked
     number_some ne v ev = rw ev (rw (ne_eqb s 5 ne) at es)

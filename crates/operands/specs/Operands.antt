@@ -1,13 +1,11 @@
 -- Document 01, "The endless machine", step 2: the value of a base, over program words p and heap words h. Assumes nothing.
-use Rattle.std.specs.Prelude.{ℕ, ◌+◌, ◌-◌, ◌*◌, ◌/◌, ◌%◌, ◌≤◌, ◌≡◌, List, [], ◌∷◌, length, eqb, ltb, leb}
+use Rattle.std.specs.Prelude.{ℕ, ◌+◌, ◌-◌, ◌*◌, ◌/◌, ◌%◌, ◌≤◌, ◌≡◌, List, [], ◌∷◌, length, eqb, ltb, leb, Option, Some, None}
 use Rattle.words.specs.Words.{pick, word}
 use Rattle.framed.specs.declared.Value.{Value}
 use Rattle.framed.specs.Machine.{Result, base_value}
 use Rattle.tables.specs.Fields.{expression_kind, expression_a, expression_b}
 use Rattle.heap.specs.Words.{value_of, frame_used, slot_count_at, self_held, program_held}
 use Rattle.heap.specs.Held.{slots_held, frames_held}
-use Rattle.paths.specs.declared.SlotFound.{SlotFound}
-use Rattle.paths.specs.declared.Fetched.{Fetched}
 use Rattle.paths.specs.Paths.{slot_from, path_held}
 use Rattle.trees.specs.Held.{base_held}
 
@@ -16,13 +14,13 @@ unfoldable pub operand_value : List ℕ → List ℕ → ℕ → Result Value
 operand_value p h x = base_value (self_held h) (program_held h) (frames_held h) (base_held p x)
 
 -- what a number stands for: the value whose tag is the number modulo 8 and whose number is the rest; 5 is undefined
-unfoldable pub unpacked : ℕ → Fetched
-unpacked n = pick (eqb n 5) Fetched.Undefined (Fetched.Found (value_of (n % 8) (n / 8 % 4294967296)))
+unfoldable pub unpacked : ℕ → Option Value
+unpacked n = pick (eqb n 5) None (Some (value_of (n % 8) (n / 8 % 4294967296)))
 
 -- the place of a slot of a frame whose slots stand from place a on, 0 where there is none
-unfoldable pub place_of : ℕ → SlotFound → ℕ
-place_of a (SlotFound.At i) = a + 3 * i
-place_of a SlotFound.Missing = 0
+unfoldable pub place_of : ℕ → Option ℕ → ℕ
+place_of a (Some i) = a + 3 * i
+place_of a None = 0
 
 -- r is the place of the slot with the name x, where the n slots from place a on are those of a frame
 pub record Placed (h : List ℕ) (a n x r : ℕ) : Type 0 where

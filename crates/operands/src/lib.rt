@@ -10,7 +10,6 @@ ghost use Rattle.paths.specs.Paths.{fetched};
 ghost use Rattle.operands.specs.Operands.{operand_value, unpacked, Placed, AtPath, path_number, quick_number};
 
 use framed::{Text, Value};
-use paths::Fetched;
 use tables::ExpressionEntry;
 
 // The place of the slot with the name among the n slots from place a on, 0 where there is none.
@@ -36,8 +35,7 @@ fn walk(p: &[u32], h: &[u32], root: usize, j: usize, n: usize) -> u64
 {
     let mut tag = h[root];
     let mut f = h[root + 1];
-    let mut i = 0usize;
-    while i < n {
+    for i in 0..n {
         if tag < 4 {
             return 5;
         }
@@ -58,7 +56,6 @@ fn walk(p: &[u32], h: &[u32], root: usize, j: usize, n: usize) -> u64
         }
         tag = h[k + 1];
         f = h[k + 2];
-        i += 1;
     }
     if 4 < tag {
         return 6;
@@ -100,20 +97,20 @@ fn quick(p: &[u32], h: &[u32], x: u32) -> u64
 }
 
 // The value of expression x read as a base, with every word tested; undefined where the end is 31.
-fn operand_tested(p: &[u32], h: &[u32], x: u32) -> Fetched
+fn operand_tested(p: &[u32], h: &[u32], x: u32) -> Option<Value>
     ensures { defined (fetched result) ≡ operand_value p.now h.now x }
 {
     let e = tables::expression_at(p, x);
     match e {
-        ExpressionEntry::Integer(w) => Fetched::Found(Value::Int(ints::int_of(w))),
-        ExpressionEntry::Literal(k) => Fetched::Found(Value::Text(Text::Literal(k))),
+        ExpressionEntry::Integer(w) => Some(Value::Int(ints::int_of(w))),
+        ExpressionEntry::Literal(k) => Some(Value::Text(Text::Literal(k))),
         ExpressionEntry::FromSelf(j, n) => paths::fetch(p, h, heap::self_value(h), j, n),
         ExpressionEntry::FromProgram(j, n) => paths::fetch(p, h, heap::program_value(h), j, n),
-        ExpressionEntry::Code(k) => Fetched::Found(Value::Code(k)),
-        ExpressionEntry::Frame(_) => Fetched::Found(Value::Int(0)),
-        ExpressionEntry::Not(_) => Fetched::Found(Value::Int(0)),
-        ExpressionEntry::Operate(_, _, _) => Fetched::Found(Value::Int(0)),
-        ExpressionEntry::Bad => Fetched::Found(Value::Int(0)),
+        ExpressionEntry::Code(k) => Some(Value::Code(k)),
+        ExpressionEntry::Frame(_) => Some(Value::Int(0)),
+        ExpressionEntry::Not(_) => Some(Value::Int(0)),
+        ExpressionEntry::Operate(_, _, _) => Some(Value::Int(0)),
+        ExpressionEntry::Bad => Some(Value::Int(0)),
     }
 }
 
@@ -125,10 +122,10 @@ pub fn value(r: u64) -> Value
 }
 
 // A value as a number, 5 where there is none.
-fn pack(r: Fetched) -> u64
+fn pack(r: Option<Value>) -> u64
     ensures { unpacked result ≡ r }
 {
-    let Fetched::Found(v) = r else {
+    let Some(v) = r else {
         return 5;
     };
     (heap::number_of(v) as u64) * 8 + (heap::tag_of(v) as u64)
@@ -146,7 +143,7 @@ pub fn operand_number(p: &[u32], h: &[u32], x: u32) -> u64
 }
 
 // Undefined where the end is 31.
-pub fn operand(p: &[u32], h: &[u32], x: u32) -> Fetched
+pub fn operand(p: &[u32], h: &[u32], x: u32) -> Option<Value>
     ensures { defined (fetched result) ≡ operand_value p.now h.now x }
 {
     let r = quick(p, h, x);
@@ -154,7 +151,7 @@ pub fn operand(p: &[u32], h: &[u32], x: u32) -> Fetched
         return operand_tested(p, h, x);
     }
     if r == 5 {
-        return Fetched::Undefined;
+        return None;
     }
-    Fetched::Found(value(r))
+    Some(value(r))
 }

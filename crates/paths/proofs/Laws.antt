@@ -10,6 +10,7 @@ use lib.ListN.{length, get_or, drop, drop_of_length-le}
 use lib.Seq.{drop-cons}
 use lib.Dec.{eqb}
 use borrow.Author.Tests.{eq-eqb, ne_eqb, not-true, not-false}
+use Rattle.std.specs.Prelude.{Option, Some, None}
 use Rattle.words.specs.Words.{pick, word}
 use Rattle.framed.specs.declared.Value.{Value}
 use Rattle.framed.specs.Values.{Slot}
@@ -19,8 +20,6 @@ use Rattle.heap.specs.Words.{frame_used, slot_count_at, slot_name_at, slot_value
 use Rattle.heap.specs.Held.{slot_held, slots_held, frame_held, frames_held}
 use Rattle.heap.proofs.Lists.{listed_length, listed_at, elem_past}
 use Rattle.heap.proofs.Held.{frames_length, frame_found, frame_of_used, frame_of_free}
-use Rattle.paths.specs.declared.SlotFound.{SlotFound}
-use Rattle.paths.specs.declared.Fetched.{Fetched}
 use Rattle.paths.specs.Paths.{slot_from, fetched, path_held}
 use Rattle.paths.proofs.Slots.{slot_hit, slot_miss}
 
@@ -44,7 +43,7 @@ unfolding slots_held
 slot_at h f i d lt = listed_at (slot_held h f) (slot_count_at h f) i d lt
 
 module _ (h : List ℕ) (f x n i : ℕ) (a : Find h f x n i) where
-  pub find_gone : n ≤ i → SlotFound.Missing ≡ slot_from (slots_held h f) x 0
+  pub find_gone : n ≤ i → None ≡ slot_from (slots_held h f) x 0
   unfolding slot_from
   find_gone le =
       let l = slots_length h f in
@@ -52,7 +51,7 @@ module _ (h : List ℕ) (f x n i : ℕ) (a : Find h f x n i) where
       rw (drop_of_length-le (slots_held h f) {i = i} (omega arith)) at a.rest
 
   module _ (lt : i < n) (s : ℕ) (es : s ≡ slot_name_at h f i) where
-    find_turn : pick (eqb s x) (SlotFound.At i) (slot_from (drop (i + 1) (slots_held h f)) x (i + 1)) ≡ slot_from (slots_held h f) x 0
+    find_turn : pick (eqb s x) (Some i) (slot_from (drop (i + 1) (slots_held h f)) x (i + 1)) ≡ slot_from (slots_held h f) x 0
     unfolding slot_from slot_held
     find_turn =
         let l = slots_length h f in
@@ -60,7 +59,7 @@ module _ (h : List ℕ) (f x n i : ℕ) (a : Find h f x n i) where
         rw (es, add-one i)
         (rw (drop-cons (slots_held h f) i (slot_held h f i) (omega arith), slot_at h f i (slot_held h f i) (omega arith), add-one i) at a.rest)
 
-    pub find_here : s ≡ x → SlotFound.At i ≡ slot_from (slots_held h f) x 0
+    pub find_here : s ≡ x → Some i ≡ slot_from (slots_held h f) x 0
     find_here e = rw (eq-eqb _ _ e) at find_turn
 
     pub find_again : (s ≡ x → ⊥) → Find h f x n (i + 1)
@@ -68,7 +67,7 @@ module _ (h : List ℕ) (f x n i : ℕ) (a : Find h f x n i) where
 
 -- ---- get
 
-pub get_else : (h : List ℕ) (x : ℕ) (v : Value) → ((k : ℕ) → v ≡ Value.Frame k → ⊥) → fetched Fetched.Undefined ≡ get (frames_held h) v x
+pub get_else : (h : List ℕ) (x : ℕ) (v : Value) → ((k : ℕ) → v ≡ Value.Frame k → ⊥) → fetched None ≡ get (frames_held h) v x
 unfolding get frame_of ◌>>=◌
 get_else h x (Value.Int n) e = refl
 get_else h x (Value.Text t) e = refl
@@ -85,22 +84,22 @@ unfolding get frame_of ◌>>=◌
 get_none h f x le = rw (elem_past (frames_held h) f (let l = frames_length h in omega arith))
 
 module _ (h : List ℕ) (x : ℕ) (v : Value) (f : ℕ) (ev : v ≡ Value.Frame f) where
-  pub get_past : 256 ≤ f → fetched Fetched.Undefined ≡ get (frames_held h) v x
+  pub get_past : 256 ≤ f → fetched None ≡ get (frames_held h) v x
   get_past le = rw (ev, get_none h f x le)
 
   module _ (lt : f < 256) (b : Bool) (eb : b ≡ frame_used h f) where
-    pub get_free : not b ≡ true → fetched Fetched.Undefined ≡ get (frames_held h) v x
+    pub get_free : not b ≡ true → fetched None ≡ get (frames_held h) v x
     unfolding in_slots
     get_free e = rw (ev, get_frame h f x lt, frame_of_free h f (sym eb ∙ not-true b e))
 
-    module _ (u : not b ≡ false) (r : SlotFound) (er : r ≡ slot_from (slots_held h f) x 0) where
+    module _ (u : not b ≡ false) (r : Option ℕ) (er : r ≡ slot_from (slots_held h f) x 0) where
       get_used : get (frames_held h) v x ≡ in_slots (slots_held h f) x
       get_used = rw (ev, get_frame h f x lt, frame_of_used h f (sym eb ∙ not-false b u))
 
-      pub get_missing : r ≡ SlotFound.Missing → fetched Fetched.Undefined ≡ get (frames_held h) v x
+      pub get_missing : r ≡ None → fetched None ≡ get (frames_held h) v x
       get_missing e = rw (get_used, (slot_miss (slots_held h f) x r er e).value)
 
-      pub get_found : (i : ℕ) (w : Value) → r ≡ SlotFound.At i → w ≡ slot_value_at h f i → fetched (Fetched.Found w) ≡ get (frames_held h) v x
+      pub get_found : (i : ℕ) (w : Value) → r ≡ Some i → w ≡ slot_value_at h f i → fetched (Some w) ≡ get (frames_held h) v x
       unfolding slot_held
       get_found i w e ew =
           let a = slot_hit (slots_held h f) x r er i e in
@@ -131,11 +130,11 @@ pub walk_start : (h p : List ℕ) (v : Value) (j n : ℕ) → Walk h p v j n v 0
 walk_start h p v j n = record { inside = omega arith; rest = refl }
 
 module _ (h p : List ℕ) (root : Value) (j n : ℕ) (v : Value) (i : ℕ) (a : Walk h p root j n v i) where
-  pub walk_done : n ≤ i → fetched (Fetched.Found v) ≡ fetch (frames_held h) root (path_held p j n)
+  pub walk_done : n ≤ i → fetched (Some v) ≡ fetch (frames_held h) root (path_held p j n)
   unfolding fetch
   walk_done le = let l = path_length p j n in rw (drop_of_length-le (path_held p j n) {i = i} (omega arith)) at a.rest
 
-  module _ (lt : i < n) (x : ℕ) (ex : x ≡ path_name p (j + i)) (r : Fetched) (er : fetched r ≡ get (frames_held h) v x) where
+  module _ (lt : i < n) (x : ℕ) (ex : x ≡ path_name p (j + i)) (r : Option Value) (er : fetched r ≡ get (frames_held h) v x) where
     walk_turn : ◌>>=◌ (fetched r) (λ w. fetch (frames_held h) w (drop (i + 1) (path_held p j n))) ≡ fetch (frames_held h) root (path_held p j n)
     unfolding fetch
     walk_turn =
@@ -143,10 +142,10 @@ module _ (h p : List ℕ) (root : Value) (j n : ℕ) (v : Value) (i : ℕ) (a : 
         rw (er, ex, add-one i)
         (rw (drop-cons (path_held p j n) i 0 (omega arith), path_get p j n i lt) at a.rest)
 
-    pub walk_undefined : r ≡ Fetched.Undefined → fetched Fetched.Undefined ≡ fetch (frames_held h) root (path_held p j n)
+    pub walk_undefined : r ≡ None → fetched None ≡ fetch (frames_held h) root (path_held p j n)
     unfolding ◌>>=◌
     walk_undefined e = rw e at walk_turn
 
-    pub walk_again : (w : Value) → r ≡ Fetched.Found w → Walk h p root j n w (i + 1)
+    pub walk_again : (w : Value) → r ≡ Some w → Walk h p root j n w (i + 1)
     unfolding ◌>>=◌
     walk_again w e = record { inside = omega arith; rest = rw e at walk_turn }

@@ -7,6 +7,7 @@ use native.Mathlib.Omega.{arith}
 use native.Mathlib.Decide.{dec_lt}
 use lib.ListN.{length, set}
 use borrow.Author.Tests.{le-ltb}
+use Rattle.std.specs.Prelude.{Option, Some, None}
 use Rattle.framed.specs.declared.Value.{Value}
 use Rattle.framed.specs.Values.{Slot, new_frame}
 use Rattle.framed.specs.Machine.{set_slot}
@@ -16,7 +17,6 @@ use Rattle.heap.specs.Held.{slot_held, slots_held, frames_held, frames_in_use}
 use Rattle.heap.specs.Closed.{Sized, ValueFits}
 use Rattle.heap.proofs.Held.{SameTexts, SameHeader, set_slot_frames, set_slot_in_use, set_slot_texts, set_slot_header}
 use Rattle.heap.proofs.Held.{add_slot_frames, add_slot_in_use, add_slot_texts, add_slot_header}
-use Rattle.paths.specs.declared.SlotFound.{SlotFound}
 use Rattle.paths.specs.Paths.{slot_from}
 use Rattle.puts.specs.Puts.{put_slot}
 use Rattle.paths.proofs.Slots.{Hit, Miss, slot_hit, slot_miss}
@@ -24,12 +24,12 @@ use Rattle.paths.proofs.Laws.{slots_length, slot_at}
 use Rattle.puts.proofs.Laws.{place_none, put_adds, put_sets}
 
 module _ (h : List ℕ) (f x : ℕ) (v : Value) where
-  by_found : (P : List ℕ → Type 0) (r : SlotFound) → r ≡ slot_from (slots_held h f) x 0
+  by_found : (P : List ℕ → Type 0) (r : Option ℕ) → r ≡ slot_from (slots_held h f) x 0
       → ((i : ℕ) → Hit (slots_held h f) x i → P (set_slot_value h f i v)) → (Miss (slots_held h f) x → P (add_slot h f x v)) → P (put_slot h f x v)
-  by_found P (SlotFound.At i) e a b =
-      rw (← put_sets h f x v (SlotFound.At i) e _ i refl refl) (a i (slot_hit (slots_held h f) x (SlotFound.At i) e i refl))
-  by_found P SlotFound.Missing e a b =
-      rw (← put_adds h f x v SlotFound.Missing e _ refl refl) (b (slot_miss (slots_held h f) x SlotFound.Missing e refl))
+  by_found P (Some i) e a b =
+      rw (← put_sets h f x v (Some i) e _ i refl refl) (a i (slot_hit (slots_held h f) x (Some i) e i refl))
+  by_found P None e a b =
+      rw (← put_adds h f x v None e _ refl refl) (b (slot_miss (slots_held h f) x None e refl))
 
   -- the two ways of Put: the slot is there, or one is added
   put_case : (P : List ℕ → Type 0) → ((i : ℕ) → Hit (slots_held h f) x i → P (set_slot_value h f i v)) → (Miss (slots_held h f) x → P (add_slot h f x v)) → P (put_slot h f x v)

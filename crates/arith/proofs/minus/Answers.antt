@@ -1,16 +1,6 @@
-use mathlib.Core.Path.{ap, ◌∙◌}
-use Rattle.bounded.specs.Operations.{ranged}
-use Rattle.arith.proofs.Wide.{widens, wide, sub_fits, sub_wide}
+use mir.Facts.{to_z-of_z}
+use Rattle.arith.proofs.Laws.{exact}
 use Rattle.arith.proofs.minus.Goals as goal
 
-pub overflow_cast-a : goal.overflow_cast-a
-overflow_cast-a c = widens c.ranges.a
-
-pub overflow_cast-b : goal.overflow_cast-b
-overflow_cast-b c = widens c.ranges.b
-
-pub overflow_sub-a : goal.overflow_sub-a
-overflow_sub-a c = rw (wide c.ranges.a, wide c.ranges.b) (sub_fits c.ranges.a c.ranges.b)
-
 pub returns : goal.returns
-returns c = c.exact.ensures ∙ ap ranged (sub_wide c.ranges.a c.ranges.b)
+returns c = exact _ _ _ (rw (to_z-of_z c.ranges.a, to_z-of_z c.ranges.b) at c.checked_sub.ensures) c.ok_or.ensures.value

@@ -4,5 +4,5 @@ use Rattle.operand_checks.proofs.check_operand.Goals as goal
 pub returns-then-operand_number-eq5 : goal.returns-then-operand_number-eq5
 returns-then-operand_number-eq5 c = search number_undefined
 
-pub returns-else-operand_number-eq5 : goal.returns-else-operand_number-eq5
-returns-else-operand_number-eq5 c = search number_found
+pub returns : goal.returns
+returns c = search number_found

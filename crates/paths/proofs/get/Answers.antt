@@ -10,8 +10,8 @@ returns-then-f-ge256 c = search get_past
 pub returns-then-not-frame_used : goal.returns-then-not-frame_used
 returns-then-not-frame_used c = search get_free
 
-pub returns-in_default-find_slot : goal.returns-in_default-find_slot
-returns-in_default-find_slot c = search get_missing
+pub returns-in_err-i : goal.returns-in_err-i
+returns-in_err-i c = rw c.from_residual.ensures (search (get_missing, c.in_err-i.was))
 
 pub returns : goal.returns
-returns c = search get_found
+returns c = search (get_found, c.in_ok-i.was)

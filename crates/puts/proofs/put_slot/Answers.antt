@@ -1,8 +1,8 @@
 use Rattle.puts.proofs.Laws.{put_adds, put_sets}
 use Rattle.puts.proofs.put_slot.Goals as goal
 
-pub returns-in_default : goal.returns-in_default
-returns-in_default c = search put_adds
+pub returns-in-None : goal.returns-in-None
+returns-in-None c = search put_adds
 
-pub returns : goal.returns
-returns c = search put_sets
+pub returns-in-Some : goal.returns-in-Some
+returns-in-Some c = search put_sets

@@ -10,11 +10,11 @@ returns-in_default c = search one_else
 pub returns-then-n-eq1 : goal.returns-then-n-eq1
 returns-then-n-eq1 c = search one_found
 
-pub returns-in_default-fetch : goal.returns-in_default-fetch
-returns-in_default-fetch c = search target_undefined
+pub returns-in_err-frame : goal.returns-in_err-frame
+returns-in_err-frame c = rw c.from_residual.ensures (search (target_undefined, c.in_err-frame.was))
 
-pub returns-in_default-v : goal.returns-in_default-v
-returns-in_default-v c = search target_else
+pub returns-in_default-2 : goal.returns-in_default-2
+returns-in_default-2 c = search (target_else, c.in_ok-frame.was)
 
 pub returns : goal.returns
-returns c = search target_found
+returns c = search (target_found, c.in_ok-frame.was)

@@ -7,8 +7,8 @@ returns-then-f-ge256 c = search end_past
 pub returns-then-not-frame_used : goal.returns-then-not-frame_used
 returns-then-not-frame_used c = search end_free
 
-pub returns-in_default : goal.returns-in_default
-returns-in_default c = search end_found
+pub returns-then-is_some : goal.returns-then-is_some
+returns-then-is_some c = search end_found
 
 pub returns-then-slot_count-lt16 : goal.returns-then-slot_count-lt16
 returns-then-slot_count-lt16 c = search end_room
