@@ -19,7 +19,7 @@ pub fn clear_bytes(m: &mut [u8])
 {
     let mut i = 0;
     while i < m.len() {
-        words::set_byte(m, i, 0);
+        words::set_word(m, i, 0);
         i += 1;
     }
 }

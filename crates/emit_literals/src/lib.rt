@@ -18,8 +18,8 @@ fn write_bytes(l: &mut [u8], k: u32, w: &[u8])
 {
     let mut i = 0;
     while i < w.len() {
-        let b = words::byte(w, i);
-        words::set_byte(l, 64 * wide(k) + i, b);
+        let b = words::word(w, i);
+        words::set_word(l, 64 * wide(k) + i, b);
         i += 1;
     }
 }

@@ -59,7 +59,7 @@ fn write_bytes(p: &mut [u32], k: u32, w: &[u8])
 {
     let mut i = 0;
     while i < w.len() {
-        let b = words::byte(w, i);
+        let b = words::word(w, i);
         words::set_word(p, 65 + 17 * wide(k) + i, b as u32);
         i += 1;
     }

@@ -63,10 +63,10 @@ fn put(
         return;
     }
     if memory == 2 {
-        words::set_byte(l, k, (value % 256) as u8);
+        words::set_word(l, k, (value % 256) as u8);
         return;
     }
-    words::set_byte(t, k, (value % 256) as u8);
+    words::set_word(t, k, (value % 256) as u8);
 }
 
 // The memories as made, where they were cleared.

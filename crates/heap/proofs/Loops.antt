@@ -1,24 +1,18 @@
 -- One law for each way through the functions of this crate that branch or loop. Assumes nothing.
-use Prim.Native.Nat.{ℕ, suc, ◌+◌, ◌-◌, ◌*◌, ◌≤◌, ◌<◌}
+use Prim.Native.Nat.{ℕ, suc, ◌+◌, ◌*◌, ◌≤◌, ◌<◌}
 use mathlib.Core.Path.{◌≡◌, refl, ◌∙◌, ap, sym}
 use mathlib.Core.List.{List}
 use mathlib.Core.Bool.{Bool, true, false}
 use native.Mathlib.Omega.{arith}
 use native.Mathlib.Numerals.{add-one}
 use lib.ListN.{length}
-use lib.IntN.{ℤ}
 use borrow.Author.Tests.{le-leb, lt-leb, lt-ltb, le-ltb}
-use Rattle.ints.specs.Ints.{word_of}
 use Rattle.words.specs.Words.{set_word}
 use Rattle.framed.specs.declared.Value.{Value}
-use Rattle.heap.specs.Words.{number_of, slot_count_at, set_slot_value, add_slot_at, add_slot, take_text, text_word, text_length, frame_used, text_used}
+use Rattle.heap.specs.Words.{slot_count_at, set_slot_value, add_slot_at, add_slot, take_text}
 use Rattle.heap.specs.Lists.{passing}
-use Rattle.heap.specs.Held.{frames_in_use, texts_in_use}
+use Rattle.heap.specs.Count.{Answers, Counted}
 use Rattle.heap.proofs.Lists.{passing_yes, passing_no}
-
--- number_of
-pub number_int : (v : Value) (z : ℤ) (r : ℕ) → v ≡ Value.Int z → r ≡ word_of z → r ≡ number_of v
-number_int v z r e q = rw (e, q)
 
 -- add_slot
 module _ (h : List ℕ) (f x n : ℕ) (v : Value) (en : n ≡ slot_count_at h f) where
@@ -40,46 +34,32 @@ pub take_short : (h h' : List ℕ) (k n i : ℕ) → n ≤ 64 → i ≡ k → h'
 unfolding take_text
 take_short h h' k n i le ei e = rw (le-ltb 64 n le, e, ei)
 
--- text_length
-pub length_none : (h : List ℕ) (k w : ℕ) → w ≡ text_word h k → w ≡ 0 → 0 ≡ text_length h k
-unfolding text_length
-length_none h k w e z = omega arith
-
-pub length_some : (h : List ℕ) (k w : ℕ) → w ≡ text_word h k → w - 1 ≡ text_length h k
-unfolding text_length
-length_some h k w e = omega arith
-
--- A loop that counts the numbers below 256 that pass a test: how many below i
-pub record Tally (t : ℕ → Bool) (i n : ℕ) : Type 0 where
-  pub inside : i ≤ 256
-  pub so_far : n ≡ length (passing t i)
+-- A loop that counts the numbers below 256 for which a closure answers yes: how many below i
+pub record Tally (post : ℕ → Bool → Type 0) (i n : ℕ) : Type 0 where
   pub small : n ≤ i
+  pub so_far : (t : ℕ → Bool) → Answers post 256 t → n ≡ length (passing t i)
 
-pub tally_start : (t : ℕ → Bool) → Tally t 0 0
+pub tally_start : (post : ℕ → Bool → Type 0) → Tally post 0 0
 unfolding passing
-tally_start t = record { inside = omega arith; so_far = refl; small = omega arith }
+tally_start post = record { small = omega arith; so_far = λ t a. refl }
 
-module _ (t : ℕ → Bool) (i n : ℕ) (a : Tally t i n) where
-  module _ (lt : i < 256) (b : Bool) (eb : b ≡ t i) (m : ℕ) where
-    pub tally_yes : b ≡ true → m ≡ n + 1 → Tally t (i + 1) m
-    tally_yes e q =
-        let s = a.small in
-        let l : length (passing t (i + 1)) ≡ suc (length (passing t i)) = ap (λ (j : ℕ). length (passing t j)) (add-one i) ∙ passing_yes t i (sym eb ∙ e) in
-        record { inside = omega arith; so_far = omega (arith, a.so_far); small = omega arith }
+module _ (post : ℕ → Bool → Type 0) (i n : ℕ) (y : Tally post i n) where
+  module _ (lt : i < 256) (b : Bool) (eb : post i b) where
+    pub tally_yes : b ≡ true → Tally post (i + 1) (n + 1)
+    tally_yes e = record {
+      small = let s = y.small in omega arith;
+      so_far = λ t a.
+          let l : length (passing t (i + 1)) ≡ suc (length (passing t i)) = ap (λ (j : ℕ). length (passing t j)) (add-one i) ∙ passing_yes t i (sym (a.answer i b lt eb) ∙ e) in
+          omega (arith, y.so_far t a);
+    }
 
-    pub tally_no : b ≡ false → m ≡ n → Tally t (i + 1) m
-    tally_no e q =
-        let s = a.small in
-        let l : length (passing t (i + 1)) ≡ length (passing t i) = ap (λ (j : ℕ). length (passing t j)) (add-one i) ∙ passing_no t i (sym eb ∙ e) in
-        record { inside = omega arith; so_far = omega (arith, a.so_far); small = omega arith }
+    pub tally_no : b ≡ false → Tally post (i + 1) n
+    tally_no e = record {
+      small = let s = y.small in omega arith;
+      so_far = λ t a.
+          let l : length (passing t (i + 1)) ≡ length (passing t i) = ap (λ (j : ℕ). length (passing t j)) (add-one i) ∙ passing_no t i (sym (a.answer i b lt eb) ∙ e) in
+          omega (arith, y.so_far t a);
+    }
 
-  same_end : 256 ≤ i → n ≡ length (passing t 256)
-  same_end le = let s = a.inside in let q : i ≡ 256 = omega arith in a.so_far ∙ ap (λ (j : ℕ). length (passing t j)) q
-
-pub frames_counted : (h : List ℕ) (i n : ℕ) → Tally (frame_used h) i n → 256 ≤ i → n ≡ length (frames_in_use h)
-unfolding frames_in_use
-frames_counted h i n a le = same_end (frame_used h) i n a le
-
-pub texts_counted : (h : List ℕ) (i n : ℕ) → Tally (text_used h) i n → 256 ≤ i → n ≡ length (texts_in_use h)
-unfolding texts_in_use
-texts_counted h i n a le = same_end (text_used h) i n a le
+  pub tally_done : 256 ≤ i → i ≤ 256 → Counted post n
+  tally_done le ge t a = y.so_far t a ∙ ap (λ (j : ℕ). length (passing t j)) (omega arith)

@@ -8,6 +8,7 @@ ghost use Rattle.heap.specs.Words.{text_word, text_used, text_length, text_byte}
 ghost use Rattle.heap.specs.Words.{set_self, set_program, set_position, set_end_mark, set_slot_value, add_slot, take_frame, free_frame};
 ghost use Rattle.heap.specs.Words.{take_text, free_text};
 ghost use Rattle.heap.specs.Held.{frames_in_use, texts_in_use};
+ghost use Rattle.heap.specs.Count.{Counted};
 
 use framed::{Text, Value};
 
@@ -16,19 +17,13 @@ use framed::{Text, Value};
 pub fn value_of(tag: u32, number: u32) -> Value
     ensures { result ≡ value_of tag number }
 {
-    if tag == 0 {
-        return Value::Int(ints::int_of(number));
+    match tag {
+        0 => Value::Int(ints::int_of(number)),
+        1 => Value::Text(Text::Literal(number)),
+        2 => Value::Text(Text::Made(number)),
+        3 => Value::Code(number),
+        _ => Value::Frame(number),
     }
-    if tag == 1 {
-        return Value::Text(Text::Literal(number));
-    }
-    if tag == 2 {
-        return Value::Text(Text::Made(number));
-    }
-    if tag == 3 {
-        return Value::Code(number);
-    }
-    Value::Frame(number)
 }
 
 pub fn tag_of(v: Value) -> u32
@@ -36,10 +31,8 @@ pub fn tag_of(v: Value) -> u32
 {
     match v {
         Value::Int(_) => 0,
-        Value::Text(t) => match t {
-            Text::Literal(_) => 1,
-            Text::Made(_) => 2,
-        },
+        Value::Text(Text::Literal(_)) => 1,
+        Value::Text(Text::Made(_)) => 2,
         Value::Code(_) => 3,
         Value::Frame(_) => 4,
     }
@@ -50,12 +43,7 @@ pub fn number_of(v: Value) -> u32
 {
     match v {
         Value::Int(n) => ints::word_of(n),
-        Value::Text(t) => match t {
-            Text::Literal(n) => n,
-            Text::Made(n) => n,
-        },
-        Value::Code(n) => n,
-        Value::Frame(n) => n,
+        Value::Text(Text::Literal(n) | Text::Made(n)) | Value::Code(n) | Value::Frame(n) => n,
     }
 }
 
@@ -223,17 +211,13 @@ pub fn text_used(h: &[u32], k: u32) -> bool
 pub fn text_length(h: &[u32], k: u32) -> u32
     ensures { result ≡ text_length h.now k }
 {
-    let w = text_word(h, k);
-    if w == 0 {
-        return 0;
-    }
-    w - 1
+    text_word(h, k).saturating_sub(1)
 }
 
 pub fn text_byte(t: &[u8], k: u32, i: u32) -> u8
     ensures { result ≡ text_byte t.now k i }
 {
-    words::byte(t, 64 * words::wide(k) + words::wide(i))
+    words::word(t, 64 * words::wide(k) + words::wide(i))
 }
 
 // In use, of n bytes; a length above 64 changes nothing.
@@ -254,30 +238,28 @@ pub fn free_text(h: &mut [u32], k: u32)
 
 // ---- How many are in use
 
+// How many of the numbers below 256 pass the test.
+fn count<F: Fn(u32) -> bool>(used: F) -> u32
+    requires { F.IsAlwaysCallable used }
+    ensures { Counted (F.post used) result }
+{
+    let mut n = 0u32;
+    for i in 0..256u32 {
+        if used(i) {
+            n += 1;
+        }
+    }
+    n
+}
+
 pub fn count_frames(h: &[u32]) -> u32
     ensures { result ≡ length (frames_in_use h.now) }
 {
-    let mut n = 0u32;
-    let mut f = 0u32;
-    while f < 256 {
-        if frame_used(h, f) {
-            n += 1;
-        }
-        f += 1;
-    }
-    n
+    count(|f| frame_used(h, f))
 }
 
 pub fn count_texts(h: &[u32]) -> u32
     ensures { result ≡ length (texts_in_use h.now) }
 {
-    let mut n = 0u32;
-    let mut k = 0u32;
-    while k < 256 {
-        if text_used(h, k) {
-            n += 1;
-        }
-        k += 1;
-    }
-    n
+    count(|k| text_used(h, k))
 }

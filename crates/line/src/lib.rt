@@ -20,7 +20,7 @@ fn write_bytes(m: &mut [u8], at: usize, s: &[u8]) -> usize
         return 0;
     }
     splice::write(m, at, s);
-    words::set_byte(m, at + n, 10);
+    words::set_word(m, at + n, 10);
     n + 1
 }
 

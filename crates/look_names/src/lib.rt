@@ -19,7 +19,7 @@ fn is_name(p: &[u32], k: u32, w: &[u8]) -> bool
     }
     let mut i = 0u32;
     while i < n {
-        let b = words::byte(w, wide(i));
+        let b = words::word(w, wide(i));
         if tables::name_byte(p, k, i) != (b as u32) {
             return false;
         }

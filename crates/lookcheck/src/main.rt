@@ -59,10 +59,10 @@ fn put(
         return;
     }
     if memory == 2 {
-        words::set_byte(l, k, (value % 256) as u8);
+        words::set_word(l, k, (value % 256) as u8);
         return;
     }
-    words::set_byte(t, k, (value % 256) as u8);
+    words::set_word(t, k, (value % 256) as u8);
 }
 
 fn make(made: &[u8], p: &mut [u32], h: &mut [u32], l: &mut [u8], t: &mut [u8]) {

@@ -64,7 +64,7 @@ fn hash(s: &[u8], a: usize, p: usize) -> usize
     let mut h = 0u32;
     let mut i = 0;
     while i < w.len() {
-        let b = words::byte(w, i);
+        let b = words::word(w, i);
         h = (h * 37 + (b as u32)) % 65536;
         i += 1;
     }
@@ -76,7 +76,7 @@ pub fn hint(s: &[u8], hints: &[u8; 4096], a: usize, p: usize) -> u32
     ensures { result ≡ word hints.now (hash_of (part s.now a p)) }
 {
     let h = hash(s, a, p);
-    let g = words::byte(hints, h);
+    let g = words::word(hints, h);
     g as u32
 }
 
@@ -139,7 +139,7 @@ fn number_hashed(
     requires hashed { h ≡ hash_of (part s.now a p) }
     ensures { result ≡ number_in (table_of s.now begins.now ends.now n) (part s.now a p) }
 {
-    let g = words::byte(hints, h);
+    let g = words::word(hints, h);
     if g == 0 {
         return n;
     }

@@ -17,7 +17,7 @@ pub word_past : (m : List ℕ) (k : ℕ) → length m ≤ k → 0 ≡ word m k
 unfolding word
 word_past m k le = sym (get_or-eq_default m 0 {n = k} le)
 
-pub set_past : (m : List ℕ) (k v : ℕ) → length m ≤ k → m ≡ set_word m k v
+pub set_past : {A : Type 0} (m : List A) (k : ℕ) (v : A) → length m ≤ k → m ≡ set_word m k v
 unfolding set_word
 set_past m k v le = sym (set_out m k v le)
 

@@ -12,7 +12,7 @@ unfoldable pub word : List ℕ → ℕ → ℕ
 word m k = get_or m k 0
 
 -- the memory with v at k, the same memory where k is past the end
-unfoldable pub set_word : List ℕ → ℕ → ℕ → List ℕ
+unfoldable pub set_word : {A : Type 0} → List A → ℕ → A → List A
 set_word m k v = set m k v
 
 -- every number below n passes the test

@@ -1,43 +1,60 @@
 // Words and bytes of a lent memory, read and written at any number: past the end a read gives 0 and a write does nothing.
 #![tactic(auto)]
 
-ghost use Rattle.std.specs.Prelude.{◌≡◌};
+ghost use Rattle.std.specs.Prelude.{◌≡◌, List, ℕ, get_or};
 ghost use Rattle.words.specs.Words.{word, set_word};
+ghost use Rattle.words.specs.Cells.{read_is};
 
-pub fn word(m: &[u32], k: usize) -> u32
-    ensures { result ≡ word m.now k }
-{
-    if k < m.len() {
-        return m[k];
-    }
-    0
+// What a lent memory is made of: words and bytes.
+pub trait Cell: Copy {
+    ghost zero: { Self };
+
+    ghost read: { List Self → ℕ → Self };
+
+    fn zero() -> Self
+        ensures { result ≡ zero };
+
+    ghost reads: { (m : List Self) (k : ℕ) → read m k ≡ get_or m k zero };
 }
 
-pub fn byte(m: &[u8], k: usize) -> u8
-    ensures { result ≡ word m.now k }
-{
-    if k < m.len() {
-        return m[k];
+impl Cell for u32 {
+    ghost zero = { 0 };
+
+    ghost read = { word };
+
+    ghost reads = { read_is };
+
+    fn zero() -> u32 {
+        0
     }
-    0
 }
 
-pub fn set_word(m: &mut [u32], k: usize, v: u32)
+impl Cell for u8 {
+    ghost zero = { 0 };
+
+    ghost read = { word };
+
+    ghost reads = { read_is };
+
+    fn zero() -> u8 {
+        0
+    }
+}
+
+pub fn word<T: Cell>(m: &[T], k: usize) -> T
+    ensures { result ≡ T.read m.now k }
+{
+    m.get(k).copied().unwrap_or(T::zero())
+}
+
+#[tactic(auto, using(crate::proofs::Laws::set_past), unfolding(crate::specs::Words::set_word))]
+pub fn set_word<T: Copy>(m: &mut [T], k: usize, v: T)
     ensures { m.new ≡ set_word m.old k v }
 {
-    if m.len() <= k {
-        return;
+    // not `get_mut`: its contract doesn't say what the slice is afterwards
+    if k < m.len() {
+        m[k] = v;
     }
-    m[k] = v;
-}
-
-pub fn set_byte(m: &mut [u8], k: usize, v: u8)
-    ensures { m.new ≡ set_word m.old k v }
-{
-    if m.len() <= k {
-        return;
-    }
-    m[k] = v;
 }
 
 pub fn wide(x: u32) -> usize

@@ -1,12 +1,8 @@
-use Rattle.heap.proofs.Loops.{tally_start, tally_yes, tally_no, frames_counted}
+use Rattle.heap.specs.Words.{frame_used}
+use Rattle.heap.specs.Held.{frames_in_use}
+use Rattle.std.proofs.Common.{rules}
 use Rattle.heap.proofs.count_frames.Goals as goal
-use Rattle.heap.proofs.count_frames.Goals.{else-frame_used, then-frame_used}
-
-pub loop-f-init : goal.loop-f-init
-loop-f-init c = search tally_start
-
-pub loop-f-preserved : goal.loop-f-preserved
-loop-f-preserved c = elim c.if-frame_used.branch [ then-frame_used w ↦ search tally_yes | else-frame_used w ↦ search tally_no ]
 
 pub returns : goal.returns
-returns c = search frames_counted
+unfolding frames_in_use
+returns c = c.count.ensures (frame_used c.args.h.now) (record { answer = λ i r lt p. search rules })

@@ -1,12 +1,8 @@
-use Rattle.heap.proofs.Loops.{tally_start, tally_yes, tally_no, texts_counted}
+use Rattle.heap.specs.Words.{text_used}
+use Rattle.heap.specs.Held.{texts_in_use}
+use Rattle.std.proofs.Common.{rules}
 use Rattle.heap.proofs.count_texts.Goals as goal
-use Rattle.heap.proofs.count_texts.Goals.{else-text_used, then-text_used}
-
-pub loop-k-init : goal.loop-k-init
-loop-k-init c = search tally_start
-
-pub loop-k-preserved : goal.loop-k-preserved
-loop-k-preserved c = elim c.if-text_used.branch [ then-text_used w ↦ search tally_yes | else-text_used w ↦ search tally_no ]
 
 pub returns : goal.returns
-returns c = search texts_counted
+unfolding texts_in_use
+returns c = c.count.ensures (text_used c.args.h.now) (record { answer = λ i r lt p. search rules })
