@@ -1,5 +1,6 @@
 -- One law for each way through the functions: loops along slots, the tests of an entry by its form. Assumes nothing.
 use mathlib.Core.Path.{◌≡◌, sym, ap, ◌∙◌}
+use mathlib.Core.Logic.{◌⊎◌, inl, inr}
 use mathlib.Core.Bool.{Bool, true, false, ◌&&◌, ◌||◌}
 use mathlib.Core.List.{List}
 use Prim.Native.Nat.{ℕ, ◌+◌, ◌-◌, ◌≤◌, ◌<◌}
@@ -78,13 +79,10 @@ module _ (p : List ℕ) (x : ℕ) (e : ExpressionEntry) where
   unfolding expression_entry_ok
   entry_literal n k q u = rw (q, u)
 
-  pub entry_from_self : (r : Bool) (j n : ℕ) → e ≡ ExpressionEntry.FromSelf j n → r ≡ path_ok p j n → r ≡ expression_entry_ok p x e
+  pub entry_path : (r : Bool) (j n : ℕ) → (e ≡ ExpressionEntry.FromSelf j n) ⊎ (e ≡ ExpressionEntry.FromProgram j n) → r ≡ path_ok p j n → r ≡ expression_entry_ok p x e
   unfolding expression_entry_ok
-  entry_from_self r j n q u = rw q u
-
-  pub entry_from_program : (r : Bool) (j n : ℕ) → e ≡ ExpressionEntry.FromProgram j n → r ≡ path_ok p j n → r ≡ expression_entry_ok p x e
-  unfolding expression_entry_ok
-  entry_from_program r j n q u = rw q u
+  entry_path r j n (inl q) u = rw q u
+  entry_path r j n (inr q) u = rw q u
 
   pub entry_code : (n k : ℕ) → e ≡ ExpressionEntry.Code k → n ≡ codes p → ltb k n ≡ expression_entry_ok p x e
   unfolding expression_entry_ok
@@ -109,13 +107,11 @@ module _ (p : List ℕ) (x : ℕ) (e : ExpressionEntry) where
 -- ---- An instruction by its form
 
 module _ (p : List ℕ) (e : InstructionEntry) where
-  pub assign_self : (r : Bool) (j n a : ℕ) → e ≡ InstructionEntry.AssignSelf j n a → r ≡ assign_ok p j n a → r ≡ instruction_entry_ok p e
+  pub assign_form : (r : Bool) (j n a : ℕ) → (e ≡ InstructionEntry.AssignSelf j n a) ⊎ (e ≡ InstructionEntry.AssignProgram j n a) → r ≡ assign_ok p j n a
+      → r ≡ instruction_entry_ok p e
   unfolding instruction_entry_ok
-  assign_self r j n a q u = rw q u
-
-  pub assign_program : (r : Bool) (j n a : ℕ) → e ≡ InstructionEntry.AssignProgram j n a → r ≡ assign_ok p j n a → r ≡ instruction_entry_ok p e
-  unfolding instruction_entry_ok
-  assign_program r j n a q u = rw q u
+  assign_form r j n a (inl q) u = rw q u
+  assign_form r j n a (inr q) u = rw q u
 
   pub show_form : (r : Bool) (a : ℕ) → e ≡ InstructionEntry.Show a → r ≡ base_ok p a → r ≡ instruction_entry_ok p e
   unfolding instruction_entry_ok
@@ -136,9 +132,11 @@ module _ (p : List ℕ) (e : InstructionEntry) where
 -- ---- All of it: counts that are too large are not counted up to
 
 module _ (p l : List ℕ) (a : Bool) (ea : a ≡ limits_ok p) where
-  pub limits_bad : a ≡ false → false ≡ entries_ok p l
+  pub limits_bad : a ≡ false → a ≡ entries_ok p l
   unfolding entries_ok
-  limits_bad e = rw (← ea, e)
+  limits_bad e =
+      let f : false ≡ entries_ok p l = rw (← ea, e) in
+      e ∙ f
 
   pub tables_tell : (r : Bool) → a ≡ true → r ≡ tables_ok p l → r ≡ entries_ok p l
   unfolding entries_ok

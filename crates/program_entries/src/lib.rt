@@ -45,14 +45,12 @@ fn other_names(p: &[u32], n: u32, z: u32) -> bool
 {
     let mut ok = true;
     let mut y = z;
-    let mut j = 0u32;
-    while j < 16 {
+    for j in 0..16u32 {
         if y == 0 {
             return ok;
         }
-        ok = ok & other_name(p, n, y);
+        ok &= other_name(p, n, y);
         y = follow_slot(p, y);
-        j += 1;
     }
     ok
 }
@@ -72,14 +70,12 @@ fn slots_ok(p: &[u32], z: u32) -> bool
 {
     let mut ok = true;
     let mut y = z;
-    let mut j = 0u32;
-    while j < 16 {
+    for j in 0..16u32 {
         if y == 0 {
             return ok;
         }
-        ok = ok & slot_ok(p, y);
+        ok &= slot_ok(p, y);
         y = follow_slot(p, y);
-        j += 1;
     }
     ok & (y == 0)
 }
@@ -102,8 +98,7 @@ fn expression_entry_ok(p: &[u32], x: u32, e: ExpressionEntry) -> bool
     match e {
         ExpressionEntry::Integer(_) => true,
         ExpressionEntry::Literal(k) => k < literals(p),
-        ExpressionEntry::FromSelf(j, n) => path_ok(p, j, n),
-        ExpressionEntry::FromProgram(j, n) => path_ok(p, j, n),
+        ExpressionEntry::FromSelf(j, n) | ExpressionEntry::FromProgram(j, n) => path_ok(p, j, n),
         ExpressionEntry::Code(k) => k < codes(p),
         ExpressionEntry::Frame(d) => frame_ok(p, x, d),
         ExpressionEntry::Not(a) => base_ok(p, a),
@@ -123,10 +118,8 @@ fn expressions_ok(p: &[u32]) -> bool
 {
     let n = expressions(p);
     let mut ok = true;
-    let mut x = 0;
-    while x < n {
-        ok = ok & expression_ok(p, x);
-        x += 1;
+    for x in 0..n {
+        ok &= expression_ok(p, x);
     }
     ok
 }
@@ -147,8 +140,9 @@ fn instruction_entry_ok(p: &[u32], e: InstructionEntry) -> bool
     ensures { result ≡ instruction_entry_ok p.now e }
 {
     match e {
-        InstructionEntry::AssignSelf(j, n, a) => assign_ok(p, j, n, a),
-        InstructionEntry::AssignProgram(j, n, a) => assign_ok(p, j, n, a),
+        InstructionEntry::AssignSelf(j, n, a) | InstructionEntry::AssignProgram(j, n, a) => {
+            assign_ok(p, j, n, a)
+        }
         InstructionEntry::Show(a) => base_ok(p, a),
         InstructionEntry::Jump(a, b) => operate_ok(p, a, b),
         InstructionEntry::Ifeq(a, b, u) => ifeq_ok(p, a, b, u),
@@ -168,10 +162,8 @@ fn instructions_ok(p: &[u32]) -> bool
 {
     let n = instructions(p);
     let mut ok = true;
-    let mut i = 0;
-    while i < n {
-        ok = ok & instruction_ok(p, i);
-        i += 1;
+    for i in 0..n {
+        ok &= instruction_ok(p, i);
     }
     ok
 }
@@ -187,10 +179,8 @@ fn codes_ok(p: &[u32]) -> bool
 {
     let n = codes(p);
     let mut ok = true;
-    let mut k = 0;
-    while k < n {
-        ok = ok & code_ok(p, k);
-        k += 1;
+    for k in 0..n {
+        ok &= code_ok(p, k);
     }
     ok
 }
@@ -209,8 +199,5 @@ fn tables_ok(p: &[u32], l: &[u8]) -> bool
 pub fn entries_ok(p: &[u32], l: &[u8]) -> bool
     ensures { result ≡ entries_ok p.now l.now }
 {
-    if !limits_ok(p) {
-        return false;
-    }
-    tables_ok(p, l)
+    limits_ok(p) && tables_ok(p, l)
 }

@@ -1,5 +1,5 @@
 -- One law for each way through the test. Assumes nothing.
-use mathlib.Core.Path.{◌≡◌}
+use mathlib.Core.Path.{◌≡◌, ◌∙◌}
 use mathlib.Core.Bool.{Bool, true, false}
 use mathlib.Core.List.{List}
 use Prim.Native.Nat.{ℕ}
@@ -19,9 +19,11 @@ module _ (p l : List ℕ) (lp : length p ≡ 16384) where
   bytes_short ne = rw (eq-eqb _ _ lp, ne_eqb _ _ ne)
 
   module _ (ll : length l ≡ 8192) (a : Bool) (ea : a ≡ entries_ok p l) where
-    pub entries_bad : a ≡ false → false ≡ program_well_formed p l
+    pub entries_bad : a ≡ false → a ≡ program_well_formed p l
     unfolding program_well_formed
-    entries_bad e = rw (eq-eqb _ _ lp, eq-eqb _ _ ll, ← ea, e)
+    entries_bad e =
+        let f : false ≡ program_well_formed p l = rw (eq-eqb _ _ lp, eq-eqb _ _ ll, ← ea, e) in
+        e ∙ f
 
     pub parts_tell : (r : Bool) → a ≡ true → r ≡ parts_ok p → r ≡ program_well_formed p l
     unfolding program_well_formed

@@ -16,8 +16,5 @@ pub fn program_well_formed(p: &[u32], l: &[u8]) -> bool
     if l.len() != 8192 {
         return false;
     }
-    if !entries_ok(p, l) {
-        return false;
-    }
-    parts_ok(p)
+    entries_ok(p, l) && parts_ok(p)
 }

@@ -1,6 +1,7 @@
 -- One law for each way through the functions that mark. Assumes nothing.
 use mathlib.Core.Path.{◌≡◌, refl, sym, ap, ◌∙◌}
-use mathlib.Core.List.{List, []}
+use mathlib.Core.Logic.{◌⊎◌, inl, inr}
+use mathlib.Core.List.{List}
 use Prim.Native.Nat.{ℕ, zero, suc, ◌+◌, ◌-◌, ◌≤◌, ◌<◌}
 use native.Mathlib.Omega.{arith}
 use native.Mathlib.Numerals.{add-one}
@@ -118,18 +119,26 @@ module _ (p : List ℕ) (x w : ℕ) (e : ExpressionEntry) (m m' : List ℕ) wher
   unfolding mark_parts
   parts_operate k a b c d m₁ q s g t f = rw (q, ← s, ← t, ← g) f
 
+pub parts_else : (p : List ℕ) (x w : ℕ) (e : ExpressionEntry) (m : List ℕ) → ((d : ℕ) → e ≡ ExpressionEntry.Frame d → ⊥)
+    → ((a : ℕ) → e ≡ ExpressionEntry.Not a → ⊥) → ((k a b : ℕ) → e ≡ ExpressionEntry.Operate k a b → ⊥) → m ≡ mark_parts p x w e m
+unfolding mark_parts
+parts_else p x w (ExpressionEntry.Integer v) m f n o = refl
+parts_else p x w (ExpressionEntry.Literal k) m f n o = refl
+parts_else p x w (ExpressionEntry.FromSelf j i) m f n o = refl
+parts_else p x w (ExpressionEntry.FromProgram j i) m f n o = refl
+parts_else p x w (ExpressionEntry.Code k) m f n o = refl
+parts_else p x w (ExpressionEntry.Frame d) m f n o = absurd (f d refl)
+parts_else p x w (ExpressionEntry.Not a) m f n o = absurd (n a refl)
+parts_else p x w (ExpressionEntry.Operate k a b) m f n o = absurd (o k a b refl)
+parts_else p x w ExpressionEntry.Bad m f n o = refl
+
 module _ (w : ℕ) (e : InstructionEntry) (m m' : List ℕ) where
-  pub operands_self : (j n a b : ℕ) → e ≡ InstructionEntry.AssignSelf j n a → b ≡ a → m' ≡ set_word m (1 + b) w → m' ≡ mark_operands w e m
+  pub operands_one : (a b : ℕ) → ((j : ℕ) × (n : ℕ) × e ≡ InstructionEntry.AssignSelf j n a)
+      ⊎ (((j : ℕ) × (n : ℕ) × e ≡ InstructionEntry.AssignProgram j n a) ⊎ (e ≡ InstructionEntry.Show a)) → b ≡ a → m' ≡ set_word m (1 + b) w → m' ≡ mark_operands w e m
   unfolding mark_operands
-  operands_self j n a b q s g = rw (q, ← s) g
-
-  pub operands_program : (j n a b : ℕ) → e ≡ InstructionEntry.AssignProgram j n a → b ≡ a → m' ≡ set_word m (1 + b) w → m' ≡ mark_operands w e m
-  unfolding mark_operands
-  operands_program j n a b q s g = rw (q, ← s) g
-
-  pub operands_show : (a b : ℕ) → e ≡ InstructionEntry.Show a → b ≡ a → m' ≡ set_word m (1 + b) w → m' ≡ mark_operands w e m
-  unfolding mark_operands
-  operands_show a b q s g = rw (q, ← s) g
+  operands_one a b (inl (j, n, q)) s g = rw (q, ← s) g
+  operands_one a b (inr (inl (j, n, q))) s g = rw (q, ← s) g
+  operands_one a b (inr (inr q)) s g = rw (q, ← s) g
 
   pub operands_jump : (a b c d : ℕ) (m₁ : List ℕ) → e ≡ InstructionEntry.Jump a b → c ≡ a → m₁ ≡ set_word m (1 + c) w → d ≡ b → m' ≡ set_word m₁ (1 + d) w
       → m' ≡ mark_operands w e m

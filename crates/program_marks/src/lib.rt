@@ -1,10 +1,9 @@
 // Arrays of marks: what is part of what in program words. Each is filled in one pass. No function here has a `requires`.
-// Cell 1 + a of an array is about entry a. o: the expression of which an expression is part; q: the instruction of which it is part;
-// c: the code in which an instruction stands; n: the expression that names a code; h: the code in which an expression is written.
 #![tactic(auto)]
 
 ghost use Rattle.std.specs.Prelude.{◌≡◌};
 ghost use Rattle.program_marks.specs.Marks.{mark_slots, mark_parts, mark_expressions, mark_operands, mark_instructions};
+ghost use Rattle.program_marks.specs.Marks.{expression_wholes, instruction_wholes, instruction_codes, code_names, homes};
 ghost use Rattle.program_marks.specs.Marks.{mark_named, mark_names, mark_firsts, mark_next, mark_nexts, home_of, mark_home, mark_homes};
 
 use tables::{
@@ -13,19 +12,63 @@ use tables::{
 };
 use words::{set_word, wide, word};
 
+// Cell 1 + a of an array is about entry a.
+#[derive(Drop)]
+pub struct Marks {
+    // the expression of which an expression is part
+    pub expression_wholes: [u32; 1025],
+    // the instruction of which it is part
+    pub instruction_wholes: [u32; 1025],
+    // the code in which an instruction stands
+    pub instruction_codes: [u32; 513],
+    // the expression that names a code
+    pub code_names: [u32; 129],
+    // the code in which an expression is written
+    pub homes: [u32; 1025],
+}
+
+impl Marks {
+    pub fn of(p: &[u32]) -> Marks
+        ensures expression_wholes { result.expression_wholes ≡ expression_wholes p.now }
+        ensures instruction_wholes { result.instruction_wholes ≡ instruction_wholes p.now }
+        ensures instruction_codes { result.instruction_codes ≡ instruction_codes p.now }
+        ensures code_names { result.code_names ≡ code_names p.now }
+        ensures homes { result.homes ≡ homes p.now }
+    {
+        let mut m = Marks {
+            expression_wholes: [0; 1025],
+            instruction_wholes: [0; 1025],
+            instruction_codes: [0; 513],
+            code_names: [0; 129],
+            homes: [0; 1025],
+        };
+        mark_expressions(p, &mut m.expression_wholes);
+        mark_instructions(p, &mut m.instruction_wholes);
+        mark_firsts(p, &mut m.instruction_codes);
+        mark_nexts(p, &mut m.instruction_codes);
+        mark_names(p, &mut m.code_names);
+        mark_homes(
+            p,
+            &m.expression_wholes,
+            &m.instruction_wholes,
+            &m.instruction_codes,
+            &mut m.homes,
+        );
+        m
+    }
+}
+
 // the slots from the place z on get the mark w
 fn mark_slots(p: &[u32], z: u32, w: u32, m: &mut [u32])
     ensures { m.new ≡ mark_slots p.now z w m.old }
 {
     let mut y = z;
-    let mut j = 0u32;
-    while j < 16 {
+    for j in 0..16u32 {
         set_word(m, wide(y), w);
         if y == 0 {
             return;
         }
         y = follow_slot(p, y);
-        j += 1;
     }
 }
 
@@ -34,48 +77,22 @@ fn mark_parts(p: &[u32], x: u32, w: u32, e: ExpressionEntry, m: &mut [u32])
     ensures { m.new ≡ mark_parts p.now x w e m.old }
 {
     match e {
-        ExpressionEntry::Integer(_) => {
-            return;
-        }
-        ExpressionEntry::Literal(_) => {
-            return;
-        }
-        ExpressionEntry::FromSelf(_, _) => {
-            return;
-        }
-        ExpressionEntry::FromProgram(_, _) => {
-            return;
-        }
-        ExpressionEntry::Code(_) => {
-            return;
-        }
-        ExpressionEntry::Frame(d) => {
-            mark_slots(p, link(1024, x, d), w, m);
-            return;
-        }
-        ExpressionEntry::Not(a) => {
-            set_word(m, 1 + wide(a), w);
-            return;
-        }
+        ExpressionEntry::Frame(d) => mark_slots(p, link(1024, x, d), w, m),
+        ExpressionEntry::Not(a) => set_word(m, 1 + wide(a), w),
         ExpressionEntry::Operate(_, a, b) => {
             set_word(m, 1 + wide(a), w);
             set_word(m, 1 + wide(b), w);
-            return;
         }
-        ExpressionEntry::Bad => {
-            return;
-        }
+        _ => {}
     }
 }
 
-pub fn mark_expressions(p: &[u32], m: &mut [u32])
+fn mark_expressions(p: &[u32], m: &mut [u32])
     ensures { m.new ≡ mark_expressions p.now m.old }
 {
     let n = expressions(p);
-    let mut x = 0;
-    while x < n {
+    for x in 0..n {
         mark_parts(p, x, 1 + x, expression_at(p, x), m);
-        x += 1;
     }
 }
 
@@ -84,43 +101,28 @@ fn mark_operands(w: u32, e: InstructionEntry, m: &mut [u32])
     ensures { m.new ≡ mark_operands w e m.old }
 {
     match e {
-        InstructionEntry::AssignSelf(_, _, a) => {
-            set_word(m, 1 + wide(a), w);
-            return;
-        }
-        InstructionEntry::AssignProgram(_, _, a) => {
-            set_word(m, 1 + wide(a), w);
-            return;
-        }
-        InstructionEntry::Show(a) => {
-            set_word(m, 1 + wide(a), w);
-            return;
-        }
+        InstructionEntry::AssignSelf(_, _, a)
+        | InstructionEntry::AssignProgram(_, _, a)
+        | InstructionEntry::Show(a) => set_word(m, 1 + wide(a), w),
         InstructionEntry::Jump(a, b) => {
             set_word(m, 1 + wide(a), w);
             set_word(m, 1 + wide(b), w);
-            return;
         }
         InstructionEntry::Ifeq(a, b, u) => {
             set_word(m, 1 + wide(a), w);
             set_word(m, 1 + wide(b), w);
             set_word(m, 1 + wide(u), w);
-            return;
         }
-        InstructionEntry::Bad => {
-            return;
-        }
+        InstructionEntry::Bad => {}
     }
 }
 
-pub fn mark_instructions(p: &[u32], m: &mut [u32])
+fn mark_instructions(p: &[u32], m: &mut [u32])
     ensures { m.new ≡ mark_instructions p.now m.old }
 {
     let n = instructions(p);
-    let mut i = 0;
-    while i < n {
+    for i in 0..n {
         mark_operands(1 + i, instruction_at(p, i), m);
-        i += 1;
     }
 }
 
@@ -128,31 +130,26 @@ pub fn mark_instructions(p: &[u32], m: &mut [u32])
 fn mark_named(w: u32, e: ExpressionEntry, m: &mut [u32])
     ensures { m.new ≡ mark_named w e m.old }
 {
-    let ExpressionEntry::Code(k) = e else {
-        return;
-    };
-    set_word(m, 1 + wide(k), w);
-}
-
-pub fn mark_names(p: &[u32], m: &mut [u32])
-    ensures { m.new ≡ mark_names p.now m.old }
-{
-    let n = expressions(p);
-    let mut x = 0;
-    while x < n {
-        mark_named(1 + x, expression_at(p, x), m);
-        x += 1;
+    if let ExpressionEntry::Code(k) = e {
+        set_word(m, 1 + wide(k), w);
     }
 }
 
-pub fn mark_firsts(p: &[u32], m: &mut [u32])
+fn mark_names(p: &[u32], m: &mut [u32])
+    ensures { m.new ≡ mark_names p.now m.old }
+{
+    let n = expressions(p);
+    for x in 0..n {
+        mark_named(1 + x, expression_at(p, x), m);
+    }
+}
+
+fn mark_firsts(p: &[u32], m: &mut [u32])
     ensures { m.new ≡ mark_firsts p.now m.old }
 {
     let n = codes(p);
-    let mut k = 0;
-    while k < n {
+    for k in 0..n {
         set_word(m, wide(code_first(p, k)), 1 + k);
-        k += 1;
     }
 }
 
@@ -164,14 +161,12 @@ fn mark_next(p: &[u32], i: u32, m: &mut [u32])
     set_word(m, wide(instruction_after(p, i)), v);
 }
 
-pub fn mark_nexts(p: &[u32], m: &mut [u32])
+fn mark_nexts(p: &[u32], m: &mut [u32])
     ensures { m.new ≡ mark_nexts p.now m.old }
 {
     let n = instructions(p);
-    let mut i = 0;
-    while i < n {
+    for i in 0..n {
         mark_next(p, i, m);
-        i += 1;
     }
 }
 
@@ -197,13 +192,11 @@ fn mark_home(o: &[u32], q: &[u32], c: &[u32], x: u32, h: &mut [u32])
     set_word(h, 1 + wide(x), v);
 }
 
-pub fn mark_homes(p: &[u32], o: &[u32], q: &[u32], c: &[u32], h: &mut [u32])
+fn mark_homes(p: &[u32], o: &[u32], q: &[u32], c: &[u32], h: &mut [u32])
     ensures { h.new ≡ mark_homes p.now o.now q.now c.now h.old }
 {
     let n = expressions(p);
-    let mut x = 0;
-    while x < n {
+    for x in 0..n {
         mark_home(o, q, c, x, h);
-        x += 1;
     }
 }

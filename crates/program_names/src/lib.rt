@@ -1,4 +1,5 @@
 // The tests of limits, names, literals and path names of program words and literal bytes. No function here has a `requires`.
+// A table is tested by a loop: `(0..n).all(..)` leaves a goal about the runs of a range, for which std has no lemma.
 #![tactic(auto)]
 
 ghost use Rattle.std.specs.Prelude.{◌≡◌};
@@ -33,15 +34,13 @@ fn same_bytes(p: &[u32], k: u32, j: u32) -> bool
     ensures { result ≡ same_bytes p.now k j }
 {
     let n = name_length(p, k);
-    let mut i = 0u32;
-    while i < 16 {
+    for i in 0..16 {
         if n <= i {
             return true;
         }
         if name_byte(p, k, i) != name_byte(p, j, i) {
             return false;
         }
-        i += 1;
     }
     true
 }
@@ -60,15 +59,13 @@ fn new_name(p: &[u32], k: u32) -> bool
     ensures { result ≡ new_name p.now k }
 {
     let mut ok = true;
-    let mut j = 0;
-    while j < k {
-        ok = ok & names_differ(p, k, j);
-        j += 1;
+    for j in 0..k {
+        ok &= names_differ(p, k, j);
     }
     ok
 }
 
-// What one reading of a name tells: whether its bytes are bytes, and its key.
+// What one reading of a name tells: whether its bytes are bytes, and its key. No option: the key is kept where they are not, too.
 #[derive(Clone, Copy)]
 struct Spelled {
     plain: bool,
@@ -81,25 +78,17 @@ fn spell(p: &[u32], k: u32) -> Spelled
     ensures key { result.key ≡ name_key p.now k }
 {
     let n = name_length(p, k);
-    let mut ok = true;
+    let mut plain = true;
     let mut key = n % 65536;
-    let mut i = 0u32;
-    while i < 16 {
+    for i in 0..16 {
         if n <= i {
-            return Spelled {
-                plain: ok,
-                key: key,
-            };
+            return Spelled { plain, key };
         }
         let b = name_byte(p, k, i);
-        ok = ok & (b < 256);
+        plain &= b < 256;
         key = key % 16777216 * 37 + b % 65536;
-        i += 1;
     }
-    Spelled {
-        plain: ok,
-        key: key,
-    }
+    Spelled { plain, key }
 }
 
 // none of the first n keys is x
@@ -107,10 +96,8 @@ fn other_keys(keys: &[u32], n: usize, x: u32) -> bool
     ensures { result ≡ other_keys keys.now n x }
 {
     let mut ok = true;
-    let mut j = 0usize;
-    while j < n {
-        ok = ok & (word(keys, j) != x);
-        j += 1;
+    for j in 0..n {
+        ok &= (word(keys, j) != x);
     }
     ok
 }
@@ -140,13 +127,10 @@ fn names_ok(p: &[u32]) -> bool
     let n = names(p);
     let mut keys = [0u32; 128];
     let mut ok = true;
-    let mut k = 0;
-    while k < n {
-        let s = spell(p, k);
-        let x = s.key;
-        ok = ok & name_ok(p, &keys, k, s.plain, x);
-        set_word(&mut keys, wide(k), x);
-        k += 1;
+    for k in 0..n {
+        let Spelled { plain, key } = spell(p, k);
+        ok &= name_ok(p, &keys, k, plain, key);
+        set_word(&mut keys, wide(k), key);
     }
     ok
 }
@@ -169,13 +153,11 @@ fn literal_bytes_ok(p: &[u32], l: &[u8], k: u32) -> bool
 {
     let n = literal_length(p, k);
     let mut ok = true;
-    let mut i = 0u32;
-    while i < 64 {
+    for i in 0..64 {
         if n <= i {
             return ok;
         }
-        ok = ok & literal_byte_ok(p, l, k, i);
-        i += 1;
+        ok &= literal_byte_ok(p, l, k, i);
     }
     ok
 }
@@ -191,10 +173,8 @@ fn literals_ok(p: &[u32], l: &[u8]) -> bool
 {
     let n = literals(p);
     let mut ok = true;
-    let mut k = 0;
-    while k < n {
-        ok = ok & literal_ok(p, l, k);
-        k += 1;
+    for k in 0..n {
+        ok &= literal_ok(p, l, k);
     }
     ok
 }
@@ -210,10 +190,8 @@ fn path_names_ok(p: &[u32]) -> bool
 {
     let n = path_names(p);
     let mut ok = true;
-    let mut j = 0;
-    while j < n {
-        ok = ok & path_name_ok(p, j);
-        j += 1;
+    for j in 0..n {
+        ok &= path_name_ok(p, j);
     }
     ok
 }

@@ -1,16 +1,15 @@
 -- One law for each way through the tests. Assumes nothing.
-use mathlib.Core.Path.{◌≡◌}
+use mathlib.Core.Path.{◌≡◌, refl}
+use mathlib.Core.Logic.{◌⊎◌, inl, inr}
 use mathlib.Core.Bool.{Bool, true, ◌&&◌}
 use mathlib.Core.List.{List}
 use Prim.Native.Nat.{ℕ, ◌+◌, ◌≤◌, ◌<◌}
-use lib.ListN.{replicate}
 use Rattle.words.proofs.Laws.{Upto, upto_again}
 use Rattle.tables.proofs.Walks.{Along, along_more, along_all}
 use Rattle.program_entries.proofs.Laws.{along_ended}
 use Rattle.tables.specs.declared.ExpressionEntry.{ExpressionEntry}
 use Rattle.tables.specs.declared.InstructionEntry.{InstructionEntry}
 use Rattle.tables.specs.Fields.{link, follow_slot}
-use Rattle.program_marks.specs.Marks.{mark_expressions, mark_instructions, mark_firsts, mark_nexts, mark_names, mark_homes}
 use Rattle.program_marks.specs.Marks.{expression_wholes, instruction_wholes, instruction_codes, code_names, homes}
 use Rattle.program_parts.specs.Tests.{part_ok, slot_marked, slot_marked_at, slots_marked, code_ok, both_parts_ok, parts_marked, expression_marked_as, expression_marked}
 use Rattle.program_parts.specs.Tests.{operand_ok, operands_marked, instruction_marked_as, instruction_marked, code_marked_as, code_marked, marks_ok, parts_ok}
@@ -34,26 +33,6 @@ along_none p o q w z j y ok u e = along_ended p z (slot_marked_at p o q w z) j y
 -- ---- An expression by its form
 
 module _ (p o q n h : List ℕ) (x w : ℕ) (e : ExpressionEntry) where
-  pub marked_integer : (v : ℕ) → e ≡ ExpressionEntry.Integer v → true ≡ parts_marked p o q n h x w e
-  unfolding parts_marked
-  marked_integer v s = rw s
-
-  pub marked_literal : (k : ℕ) → e ≡ ExpressionEntry.Literal k → true ≡ parts_marked p o q n h x w e
-  unfolding parts_marked
-  marked_literal k s = rw s
-
-  pub marked_from_self : (j m : ℕ) → e ≡ ExpressionEntry.FromSelf j m → true ≡ parts_marked p o q n h x w e
-  unfolding parts_marked
-  marked_from_self j m s = rw s
-
-  pub marked_from_program : (j m : ℕ) → e ≡ ExpressionEntry.FromProgram j m → true ≡ parts_marked p o q n h x w e
-  unfolding parts_marked
-  marked_from_program j m s = rw s
-
-  pub marked_bad : e ≡ ExpressionEntry.Bad → true ≡ parts_marked p o q n h x w e
-  unfolding parts_marked
-  marked_bad s = rw s
-
   pub marked_code : (r : Bool) (k : ℕ) → e ≡ ExpressionEntry.Code k → r ≡ code_ok n h w k → r ≡ parts_marked p o q n h x w e
   unfolding parts_marked
   marked_code r k s u = rw s u
@@ -70,20 +49,28 @@ module _ (p o q n h : List ℕ) (x w : ℕ) (e : ExpressionEntry) where
   unfolding parts_marked
   marked_operate r k a b s u = rw s u
 
+pub marked_else : (p o q n h : List ℕ) (x w : ℕ) (e : ExpressionEntry) → ((k : ℕ) → e ≡ ExpressionEntry.Code k → ⊥) → ((d : ℕ) → e ≡ ExpressionEntry.Frame d → ⊥)
+    → ((a : ℕ) → e ≡ ExpressionEntry.Not a → ⊥) → ((k a b : ℕ) → e ≡ ExpressionEntry.Operate k a b → ⊥) → true ≡ parts_marked p o q n h x w e
+unfolding parts_marked
+marked_else p o q n h x w (ExpressionEntry.Integer v) u v' s t = refl
+marked_else p o q n h x w (ExpressionEntry.Literal k) u v s t = refl
+marked_else p o q n h x w (ExpressionEntry.FromSelf j m) u v s t = refl
+marked_else p o q n h x w (ExpressionEntry.FromProgram j m) u v s t = refl
+marked_else p o q n h x w (ExpressionEntry.Code k) u v s t = absurd (u k refl)
+marked_else p o q n h x w (ExpressionEntry.Frame d) u v s t = absurd (v d refl)
+marked_else p o q n h x w (ExpressionEntry.Not a) u v s t = absurd (s a refl)
+marked_else p o q n h x w (ExpressionEntry.Operate k a b) u v s t = absurd (t k a b refl)
+marked_else p o q n h x w ExpressionEntry.Bad u v s t = refl
+
 -- ---- An instruction by its form
 
 module _ (o q : List ℕ) (w : ℕ) (e : InstructionEntry) where
-  pub marked_self : (r : Bool) (j n a : ℕ) → e ≡ InstructionEntry.AssignSelf j n a → r ≡ operand_ok o q w a → r ≡ operands_marked o q w e
+  pub marked_one : (r : Bool) (a : ℕ) → ((j : ℕ) × (n : ℕ) × e ≡ InstructionEntry.AssignSelf j n a)
+      ⊎ (((j : ℕ) × (n : ℕ) × e ≡ InstructionEntry.AssignProgram j n a) ⊎ (e ≡ InstructionEntry.Show a)) → r ≡ operand_ok o q w a → r ≡ operands_marked o q w e
   unfolding operands_marked
-  marked_self r j n a s u = rw s u
-
-  pub marked_program : (r : Bool) (j n a : ℕ) → e ≡ InstructionEntry.AssignProgram j n a → r ≡ operand_ok o q w a → r ≡ operands_marked o q w e
-  unfolding operands_marked
-  marked_program r j n a s u = rw s u
-
-  pub marked_show : (r : Bool) (a : ℕ) → e ≡ InstructionEntry.Show a → r ≡ operand_ok o q w a → r ≡ operands_marked o q w e
-  unfolding operands_marked
-  marked_show r a s u = rw s u
+  marked_one r a (inl (j, n, s)) u = rw s u
+  marked_one r a (inr (inl (j, n, s))) u = rw s u
+  marked_one r a (inr (inr s)) u = rw s u
 
   pub marked_jump : (r t : Bool) (a b : ℕ) → e ≡ InstructionEntry.Jump a b → r ≡ operand_ok o q w a → t ≡ operand_ok o q w b → r && t ≡ operands_marked o q w e
   unfolding operands_marked
@@ -113,8 +100,7 @@ code_again p c n t k ok b u lt g = upto_again (code_marked p c n) t k ok b u lt 
 
 -- ---- All of it
 
-pub marks_tell : (p o q c₁ c n h : List ℕ) (r : Bool) → o ≡ mark_expressions p (replicate 1025 0) → q ≡ mark_instructions p (replicate 1025 0)
-    → c₁ ≡ mark_firsts p (replicate 513 0) → c ≡ mark_nexts p c₁ → n ≡ mark_names p (replicate 129 0) → h ≡ mark_homes p o q c (replicate 1025 0)
+pub marks_tell : (p o q c n h : List ℕ) (r : Bool) → o ≡ expression_wholes p → q ≡ instruction_wholes p → c ≡ instruction_codes p → n ≡ code_names p → h ≡ homes p
     → r ≡ marks_ok p o q c n h → r ≡ parts_ok p
-unfolding parts_ok expression_wholes instruction_wholes instruction_codes code_names homes
-marks_tell p o q c₁ c n h r eo eq e₁ ec en eh er = rw (← eo, ← eq, ← e₁, ← ec, ← en, ← eh) er
+unfolding parts_ok
+marks_tell p o q c n h r eo eq ec en eh er = rw (← eo, ← eq, ← ec, ← en, ← eh) er

@@ -11,8 +11,7 @@ fn find_slot(p: &[u32], name: u32, from: u32) -> u32
     ensures { result ≡ find_slot p.now name 16 from }
 {
     let mut z = from;
-    let mut i = 0u32;
-    while i < 16 {
+    for i in 0..16u32 {
         if z == 0 {
             return 0;
         }
@@ -20,7 +19,6 @@ fn find_slot(p: &[u32], name: u32, from: u32) -> u32
             return z;
         }
         z = tables::slot_after(p, z - 1);
-        i += 1;
     }
     0
 }

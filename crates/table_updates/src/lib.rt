@@ -1,7 +1,7 @@
 // Program words and literal bytes: each field of docs/LAYOUT.md, written. Past the memory's end nothing is written.
 #![tactic(auto)]
 
-ghost use Rattle.std.specs.Prelude.{◌≡◌};
+ghost use Rattle.std.specs.Prelude.{◌≡◌, [], ◌∷◌};
 ghost use Rattle.table_updates.specs.Encode.{expression_kind_of, expression_a_of, expression_b_of, instruction_kind_of, instruction_a_of, instruction_b_of, instruction_c_of};
 ghost use Rattle.table_updates.specs.Updates.{set_frame_limit, set_text_limit, set_names, set_literals, set_expressions, set_instructions, set_codes, set_path_names};
 ghost use Rattle.table_updates.specs.Updates.{set_program_slots, set_start, set_name_length, set_literal_length, set_code_first, set_path_name, set_instruction_link, set_slot_name};
@@ -10,103 +10,34 @@ ghost use Rattle.table_updates.specs.Updates.{set_slot_link, set_expression, set
 use tables::{ExpressionEntry, InstructionEntry};
 use words::{set_word, wide};
 
-fn expression_kind_of(e: ExpressionEntry) -> u32
-    ensures { result ≡ expression_kind_of e }
+// the words kind, a and b of an expression entry
+fn expression_words(e: ExpressionEntry) -> [u32; 3]
+    ensures { result ≡ expression_kind_of e ∷ expression_a_of e ∷ expression_b_of e ∷ [] }
 {
     match e {
-        ExpressionEntry::Integer(_) => 0,
-        ExpressionEntry::Literal(_) => 1,
-        ExpressionEntry::FromSelf(_, _) => 2,
-        ExpressionEntry::FromProgram(_, _) => 3,
-        ExpressionEntry::Code(_) => 4,
-        ExpressionEntry::Frame(_) => 5,
-        ExpressionEntry::Not(_) => 6,
-        ExpressionEntry::Operate(k, _, _) => k,
-        ExpressionEntry::Bad => 16,
+        ExpressionEntry::Integer(a) => [0, a, 0],
+        ExpressionEntry::Literal(a) => [1, a, 0],
+        ExpressionEntry::FromSelf(a, b) => [2, a, b],
+        ExpressionEntry::FromProgram(a, b) => [3, a, b],
+        ExpressionEntry::Code(a) => [4, a, 0],
+        ExpressionEntry::Frame(a) => [5, a, 0],
+        ExpressionEntry::Not(a) => [6, a, 0],
+        ExpressionEntry::Operate(k, a, b) => [k, a, b],
+        ExpressionEntry::Bad => [16, 0, 0],
     }
 }
 
-fn expression_a_of(e: ExpressionEntry) -> u32
-    ensures { result ≡ expression_a_of e }
+// the words kind, a, b and c of an instruction entry
+fn instruction_words(e: InstructionEntry) -> [u32; 4]
+    ensures { result ≡ instruction_kind_of e ∷ instruction_a_of e ∷ instruction_b_of e ∷ instruction_c_of e ∷ [] }
 {
     match e {
-        ExpressionEntry::Integer(a) => a,
-        ExpressionEntry::Literal(a) => a,
-        ExpressionEntry::FromSelf(a, _) => a,
-        ExpressionEntry::FromProgram(a, _) => a,
-        ExpressionEntry::Code(a) => a,
-        ExpressionEntry::Frame(a) => a,
-        ExpressionEntry::Not(a) => a,
-        ExpressionEntry::Operate(_, a, _) => a,
-        ExpressionEntry::Bad => 0,
-    }
-}
-
-fn expression_b_of(e: ExpressionEntry) -> u32
-    ensures { result ≡ expression_b_of e }
-{
-    match e {
-        ExpressionEntry::Integer(_) => 0,
-        ExpressionEntry::Literal(_) => 0,
-        ExpressionEntry::FromSelf(_, b) => b,
-        ExpressionEntry::FromProgram(_, b) => b,
-        ExpressionEntry::Code(_) => 0,
-        ExpressionEntry::Frame(_) => 0,
-        ExpressionEntry::Not(_) => 0,
-        ExpressionEntry::Operate(_, _, b) => b,
-        ExpressionEntry::Bad => 0,
-    }
-}
-
-fn instruction_kind_of(e: InstructionEntry) -> u32
-    ensures { result ≡ instruction_kind_of e }
-{
-    match e {
-        InstructionEntry::AssignSelf(_, _, _) => 0,
-        InstructionEntry::AssignProgram(_, _, _) => 1,
-        InstructionEntry::Show(_) => 2,
-        InstructionEntry::Jump(_, _) => 3,
-        InstructionEntry::Ifeq(_, _, _) => 4,
-        InstructionEntry::Bad => 5,
-    }
-}
-
-fn instruction_a_of(e: InstructionEntry) -> u32
-    ensures { result ≡ instruction_a_of e }
-{
-    match e {
-        InstructionEntry::AssignSelf(a, _, _) => a,
-        InstructionEntry::AssignProgram(a, _, _) => a,
-        InstructionEntry::Show(a) => a,
-        InstructionEntry::Jump(a, _) => a,
-        InstructionEntry::Ifeq(a, _, _) => a,
-        InstructionEntry::Bad => 0,
-    }
-}
-
-fn instruction_b_of(e: InstructionEntry) -> u32
-    ensures { result ≡ instruction_b_of e }
-{
-    match e {
-        InstructionEntry::AssignSelf(_, b, _) => b,
-        InstructionEntry::AssignProgram(_, b, _) => b,
-        InstructionEntry::Show(_) => 0,
-        InstructionEntry::Jump(_, b) => b,
-        InstructionEntry::Ifeq(_, b, _) => b,
-        InstructionEntry::Bad => 0,
-    }
-}
-
-fn instruction_c_of(e: InstructionEntry) -> u32
-    ensures { result ≡ instruction_c_of e }
-{
-    match e {
-        InstructionEntry::AssignSelf(_, _, c) => c,
-        InstructionEntry::AssignProgram(_, _, c) => c,
-        InstructionEntry::Show(_) => 0,
-        InstructionEntry::Jump(_, _) => 0,
-        InstructionEntry::Ifeq(_, _, c) => c,
-        InstructionEntry::Bad => 0,
+        InstructionEntry::AssignSelf(a, b, c) => [0, a, b, c],
+        InstructionEntry::AssignProgram(a, b, c) => [1, a, b, c],
+        InstructionEntry::Show(a) => [2, a, 0, 0],
+        InstructionEntry::Jump(a, b) => [3, a, b, 0],
+        InstructionEntry::Ifeq(a, b, c) => [4, a, b, c],
+        InstructionEntry::Bad => [5, 0, 0, 0],
     }
 }
 
@@ -216,17 +147,19 @@ pub fn set_slot_link(p: &mut [u32], x: u32, v: u32)
 pub fn set_expression(p: &mut [u32], x: u32, e: ExpressionEntry)
     ensures { p.new ≡ set_expression p.old x e }
 {
-    set_word(p, 7104 + 5 * wide(x), expression_kind_of(e));
-    set_word(p, 7105 + 5 * wide(x), expression_a_of(e));
-    set_word(p, 7106 + 5 * wide(x), expression_b_of(e));
+    let [kind, a, b] = expression_words(e);
+    set_word(p, 7104 + 5 * wide(x), kind);
+    set_word(p, 7105 + 5 * wide(x), a);
+    set_word(p, 7106 + 5 * wide(x), b);
 }
 
 // kind, a, b and c of instruction i; its link stays
 pub fn set_instruction(p: &mut [u32], i: u32, e: InstructionEntry)
     ensures { p.new ≡ set_instruction p.old i e }
 {
-    set_word(p, 4544 + 5 * wide(i), instruction_kind_of(e));
-    set_word(p, 4545 + 5 * wide(i), instruction_a_of(e));
-    set_word(p, 4546 + 5 * wide(i), instruction_b_of(e));
-    set_word(p, 4547 + 5 * wide(i), instruction_c_of(e));
+    let [kind, a, b, c] = instruction_words(e);
+    set_word(p, 4544 + 5 * wide(i), kind);
+    set_word(p, 4545 + 5 * wide(i), a);
+    set_word(p, 4546 + 5 * wide(i), b);
+    set_word(p, 4547 + 5 * wide(i), c);
 }

@@ -4,9 +4,10 @@ use mathlib.Core.List.{List}
 use Prim.Native.Nat.{ℕ, zero, suc, ◌+◌, ◌-◌, ◌*◌, ◌≤◌, ◌<◌}
 use native.Mathlib.Omega.{arith}
 use lib.ListN.{get_or}
-use borrow.Author.Tests.{eq-eqb, ne_eqb, lt-ltb, le-ltb, le-leb, lt-leb}
+use borrow.Author.Tests.{eq-eqb, ne_eqb, le-leb, lt-leb}
 use Rattle.tables.specs.declared.ExpressionEntry.{ExpressionEntry}
 use Rattle.tables.specs.declared.InstructionEntry.{InstructionEntry}
+use Rattle.std.proofs.lemmas.Bool.Decides.{nat_tests}
 use Rattle.words.specs.Words.{word}
 use Rattle.tables.specs.Fields.{link, slot_after, follow_slot, expression_kind, expression_a, expression_b, instruction_kind, instruction_a, instruction_b, instruction_c}
 use Rattle.tables.specs.Entries.{expression_of, expression_at, instruction_of, instruction_at}
@@ -58,68 +59,17 @@ module _ (p : List ℕ) (x y : ℕ) (e : y ≡ x) where
   instruction_read r er =
       rw (er, first 4544, next 4544 4545 1 (omega arith), next 4544 4546 2 (omega arith), next 4544 4547 3 (omega arith))
 
--- ---- Decoding an expression
+-- ---- Decoding an entry: the kinds that stand for no one number
 
 module _ (k a b : ℕ) where
-  pub is_integer : k ≡ 0 → ExpressionEntry.Integer a ≡ expression_of k a b
+  pub is_operate : 7 ≤ k → k < 16 → ExpressionEntry.Operate k a b ≡ expression_of k a b
   unfolding expression_of
-  is_integer e = rw (eq-eqb k 0 e)
+  is_operate le lt = grind (arith, nat_tests)
 
-  pub is_literal : (k ≡ 0 → ⊥) → k ≡ 1 → ExpressionEntry.Literal a ≡ expression_of k a b
+  pub is_bad : 16 ≤ k → ExpressionEntry.Bad ≡ expression_of k a b
   unfolding expression_of
-  is_literal n0 e = rw (ne_eqb k 0 n0, eq-eqb k 1 e)
+  is_bad le = grind (arith, nat_tests)
 
-  pub is_from_self : (k ≡ 0 → ⊥) → (k ≡ 1 → ⊥) → k ≡ 2 → ExpressionEntry.FromSelf a b ≡ expression_of k a b
-  unfolding expression_of
-  is_from_self n0 n1 e = rw (ne_eqb k 0 n0, ne_eqb k 1 n1, eq-eqb k 2 e)
-
-  pub is_from_program : (k ≡ 0 → ⊥) → (k ≡ 1 → ⊥) → (k ≡ 2 → ⊥) → k ≡ 3 → ExpressionEntry.FromProgram a b ≡ expression_of k a b
-  unfolding expression_of
-  is_from_program n0 n1 n2 e = rw (ne_eqb k 0 n0, ne_eqb k 1 n1, ne_eqb k 2 n2, eq-eqb k 3 e)
-
-  pub is_code : (k ≡ 0 → ⊥) → (k ≡ 1 → ⊥) → (k ≡ 2 → ⊥) → (k ≡ 3 → ⊥) → k ≡ 4 → ExpressionEntry.Code a ≡ expression_of k a b
-  unfolding expression_of
-  is_code n0 n1 n2 n3 e = rw (ne_eqb k 0 n0, ne_eqb k 1 n1, ne_eqb k 2 n2, ne_eqb k 3 n3, eq-eqb k 4 e)
-
-  pub is_frame : (k ≡ 0 → ⊥) → (k ≡ 1 → ⊥) → (k ≡ 2 → ⊥) → (k ≡ 3 → ⊥) → (k ≡ 4 → ⊥) → k ≡ 5 → ExpressionEntry.Frame a ≡ expression_of k a b
-  unfolding expression_of
-  is_frame n0 n1 n2 n3 n4 e = rw (ne_eqb k 0 n0, ne_eqb k 1 n1, ne_eqb k 2 n2, ne_eqb k 3 n3, ne_eqb k 4 n4, eq-eqb k 5 e)
-
-  pub is_not : (k ≡ 0 → ⊥) → (k ≡ 1 → ⊥) → (k ≡ 2 → ⊥) → (k ≡ 3 → ⊥) → (k ≡ 4 → ⊥) → (k ≡ 5 → ⊥) → k ≡ 6 → ExpressionEntry.Not a ≡ expression_of k a b
-  unfolding expression_of
-  is_not n0 n1 n2 n3 n4 n5 e = rw (ne_eqb k 0 n0, ne_eqb k 1 n1, ne_eqb k 2 n2, ne_eqb k 3 n3, ne_eqb k 4 n4, ne_eqb k 5 n5, eq-eqb k 6 e)
-
-  pub is_operate : (k ≡ 0 → ⊥) → (k ≡ 1 → ⊥) → (k ≡ 2 → ⊥) → (k ≡ 3 → ⊥) → (k ≡ 4 → ⊥) → (k ≡ 5 → ⊥) → (k ≡ 6 → ⊥) → k < 16 → ExpressionEntry.Operate k a b ≡ expression_of k a b
-  unfolding expression_of
-  is_operate n0 n1 n2 n3 n4 n5 n6 lt = rw (ne_eqb k 0 n0, ne_eqb k 1 n1, ne_eqb k 2 n2, ne_eqb k 3 n3, ne_eqb k 4 n4, ne_eqb k 5 n5, ne_eqb k 6 n6, lt-ltb k 16 lt)
-
-  pub is_bad : (k ≡ 0 → ⊥) → (k ≡ 1 → ⊥) → (k ≡ 2 → ⊥) → (k ≡ 3 → ⊥) → (k ≡ 4 → ⊥) → (k ≡ 5 → ⊥) → (k ≡ 6 → ⊥) → 16 ≤ k → ExpressionEntry.Bad ≡ expression_of k a b
-  unfolding expression_of
-  is_bad n0 n1 n2 n3 n4 n5 n6 le = rw (ne_eqb k 0 n0, ne_eqb k 1 n1, ne_eqb k 2 n2, ne_eqb k 3 n3, ne_eqb k 4 n4, ne_eqb k 5 n5, ne_eqb k 6 n6, le-ltb k 16 le)
-
--- ---- Decoding an instruction
-
-module _ (k a b c : ℕ) where
-  pub is_assign_self : k ≡ 0 → InstructionEntry.AssignSelf a b c ≡ instruction_of k a b c
+  pub is_bad_instruction : (c : ℕ) → 5 ≤ k → InstructionEntry.Bad ≡ instruction_of k a b c
   unfolding instruction_of
-  is_assign_self e = rw (eq-eqb k 0 e)
-
-  pub is_assign_program : (k ≡ 0 → ⊥) → k ≡ 1 → InstructionEntry.AssignProgram a b c ≡ instruction_of k a b c
-  unfolding instruction_of
-  is_assign_program n0 e = rw (ne_eqb k 0 n0, eq-eqb k 1 e)
-
-  pub is_show : (k ≡ 0 → ⊥) → (k ≡ 1 → ⊥) → k ≡ 2 → InstructionEntry.Show a ≡ instruction_of k a b c
-  unfolding instruction_of
-  is_show n0 n1 e = rw (ne_eqb k 0 n0, ne_eqb k 1 n1, eq-eqb k 2 e)
-
-  pub is_jump : (k ≡ 0 → ⊥) → (k ≡ 1 → ⊥) → (k ≡ 2 → ⊥) → k ≡ 3 → InstructionEntry.Jump a b ≡ instruction_of k a b c
-  unfolding instruction_of
-  is_jump n0 n1 n2 e = rw (ne_eqb k 0 n0, ne_eqb k 1 n1, ne_eqb k 2 n2, eq-eqb k 3 e)
-
-  pub is_ifeq : (k ≡ 0 → ⊥) → (k ≡ 1 → ⊥) → (k ≡ 2 → ⊥) → (k ≡ 3 → ⊥) → k ≡ 4 → InstructionEntry.Ifeq a b c ≡ instruction_of k a b c
-  unfolding instruction_of
-  is_ifeq n0 n1 n2 n3 e = rw (ne_eqb k 0 n0, ne_eqb k 1 n1, ne_eqb k 2 n2, ne_eqb k 3 n3, eq-eqb k 4 e)
-
-  pub is_bad_instruction : (k ≡ 0 → ⊥) → (k ≡ 1 → ⊥) → (k ≡ 2 → ⊥) → (k ≡ 3 → ⊥) → (k ≡ 4 → ⊥) → InstructionEntry.Bad ≡ instruction_of k a b c
-  unfolding instruction_of
-  is_bad_instruction n0 n1 n2 n3 n4 = rw (ne_eqb k 0 n0, ne_eqb k 1 n1, ne_eqb k 2 n2, ne_eqb k 3 n3, ne_eqb k 4 n4)
+  is_bad_instruction c le = grind (arith, nat_tests)

@@ -209,10 +209,7 @@ pub fn slot_after(p: &[u32], y: u32) -> u32
 pub fn number(z: u32) -> u32
     ensures { result ≡ z - 1 }
 {
-    if z == 0 {
-        return 0;
-    }
-    z - 1
+    z.saturating_sub(1)
 }
 
 // the place after the place z along the slots of a frame
@@ -261,52 +258,30 @@ pub enum InstructionEntry {
 fn expression_of(k: u32, a: u32, b: u32) -> ExpressionEntry
     ensures { result ≡ expression_of k a b }
 {
-    if k == 0 {
-        return ExpressionEntry::Integer(a);
+    match k {
+        0 => ExpressionEntry::Integer(a),
+        1 => ExpressionEntry::Literal(a),
+        2 => ExpressionEntry::FromSelf(a, b),
+        3 => ExpressionEntry::FromProgram(a, b),
+        4 => ExpressionEntry::Code(a),
+        5 => ExpressionEntry::Frame(a),
+        6 => ExpressionEntry::Not(a),
+        7..=15 => ExpressionEntry::Operate(k, a, b),
+        _ => ExpressionEntry::Bad,
     }
-    if k == 1 {
-        return ExpressionEntry::Literal(a);
-    }
-    if k == 2 {
-        return ExpressionEntry::FromSelf(a, b);
-    }
-    if k == 3 {
-        return ExpressionEntry::FromProgram(a, b);
-    }
-    if k == 4 {
-        return ExpressionEntry::Code(a);
-    }
-    if k == 5 {
-        return ExpressionEntry::Frame(a);
-    }
-    if k == 6 {
-        return ExpressionEntry::Not(a);
-    }
-    if k < 16 {
-        return ExpressionEntry::Operate(k, a, b);
-    }
-    ExpressionEntry::Bad
 }
 
 fn instruction_of(k: u32, a: u32, b: u32, c: u32) -> InstructionEntry
     ensures { result ≡ instruction_of k a b c }
 {
-    if k == 0 {
-        return InstructionEntry::AssignSelf(a, b, c);
+    match k {
+        0 => InstructionEntry::AssignSelf(a, b, c),
+        1 => InstructionEntry::AssignProgram(a, b, c),
+        2 => InstructionEntry::Show(a),
+        3 => InstructionEntry::Jump(a, b),
+        4 => InstructionEntry::Ifeq(a, b, c),
+        _ => InstructionEntry::Bad,
     }
-    if k == 1 {
-        return InstructionEntry::AssignProgram(a, b, c);
-    }
-    if k == 2 {
-        return InstructionEntry::Show(a);
-    }
-    if k == 3 {
-        return InstructionEntry::Jump(a, b);
-    }
-    if k == 4 {
-        return InstructionEntry::Ifeq(a, b, c);
-    }
-    InstructionEntry::Bad
 }
 
 // the entry of expression x; one test for its words where all are there

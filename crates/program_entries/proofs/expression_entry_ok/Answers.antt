@@ -1,4 +1,4 @@
-use Rattle.program_entries.proofs.Laws.{entry_integer, entry_literal, entry_from_self, entry_from_program, entry_code, entry_frame, entry_not, entry_operate, entry_bad}
+use Rattle.program_entries.proofs.Laws.{entry_integer, entry_literal, entry_path, entry_code, entry_frame, entry_not, entry_operate, entry_bad}
 use Rattle.program_entries.proofs.expression_entry_ok.Goals as goal
 
 pub returns-in-Integer : goal.returns-in-Integer
@@ -8,10 +8,7 @@ pub returns-in-Literal : goal.returns-in-Literal
 returns-in-Literal c = search entry_literal
 
 pub returns-in-FromSelf : goal.returns-in-FromSelf
-returns-in-FromSelf c = search entry_from_self
-
-pub returns-in-FromProgram : goal.returns-in-FromProgram
-returns-in-FromProgram c = search entry_from_program
+returns-in-FromSelf c = search entry_path
 
 pub returns-in-Code : goal.returns-in-Code
 returns-in-Code c = search entry_code

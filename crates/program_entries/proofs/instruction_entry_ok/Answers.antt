@@ -1,11 +1,8 @@
-use Rattle.program_entries.proofs.Laws.{assign_self, assign_program, show_form, jump_form, ifeq_form, bad_form}
+use Rattle.program_entries.proofs.Laws.{assign_form, show_form, jump_form, ifeq_form, bad_form}
 use Rattle.program_entries.proofs.instruction_entry_ok.Goals as goal
 
 pub returns-in-AssignSelf : goal.returns-in-AssignSelf
-returns-in-AssignSelf c = search assign_self
-
-pub returns-in-AssignProgram : goal.returns-in-AssignProgram
-returns-in-AssignProgram c = search assign_program
+returns-in-AssignSelf c = search assign_form
 
 pub returns-in-Show : goal.returns-in-Show
 returns-in-Show c = search show_form

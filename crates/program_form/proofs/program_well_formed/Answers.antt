@@ -1,4 +1,3 @@
-use borrow.Author.Tests.{not-true, not-false}
 use Rattle.program_form.proofs.Laws.{words_short, bytes_short, entries_bad, parts_tell}
 use Rattle.program_form.proofs.program_well_formed.Goals as goal
 
@@ -8,8 +7,8 @@ returns-then-p-ne16384 c = search words_short
 pub returns-then-l-ne8192 : goal.returns-then-l-ne8192
 returns-then-l-ne8192 c = search bytes_short
 
-pub returns-then-not-entries_ok : goal.returns-then-not-entries_ok
-returns-then-not-entries_ok c = search (entries_bad, not-true)
+pub returns-then-entries_ok : goal.returns-then-entries_ok
+returns-then-entries_ok c = search parts_tell
 
-pub returns : goal.returns
-returns c = search (parts_tell, not-false)
+pub returns-else-entries_ok : goal.returns-else-entries_ok
+returns-else-entries_ok c = search entries_bad

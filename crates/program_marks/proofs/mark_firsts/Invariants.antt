@@ -1,10 +1,6 @@
-use Prim.Native.Nat.{◌-◌}
 use Rattle.program_marks.specs.Marks.{mark_first}
 use Rattle.program_marks.proofs.Laws.{Done}
 use Rattle.program_marks.proofs.mark_firsts.Given as goal
 
 abbrev pub invariant-loop-k : goal.invariant-loop-k
 invariant-loop-k l = Done (mark_first l.p) l.n l.k l.initial.m l.m
-
-abbrev pub decreases-loop-k : goal.decreases-loop-k
-decreases-loop-k l = l.n - l.k

@@ -1,10 +1,6 @@
-use Prim.Native.Nat.{◌-◌}
 use Rattle.program_marks.specs.Marks.{mark_instruction}
 use Rattle.program_marks.proofs.Laws.{Done}
 use Rattle.program_marks.proofs.mark_instructions.Given as goal
 
 abbrev pub invariant-loop-i : goal.invariant-loop-i
 invariant-loop-i l = Done (mark_instruction l.p) l.n l.i l.initial.m l.m
-
-abbrev pub decreases-loop-i : goal.decreases-loop-i
-decreases-loop-i l = l.n - l.i

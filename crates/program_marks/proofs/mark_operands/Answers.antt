@@ -1,15 +1,9 @@
 use Rattle.program_marks.specs.Marks.{mark_operands}
-use Rattle.program_marks.proofs.Laws.{operands_self, operands_program, operands_show, operands_jump, operands_ifeq}
+use Rattle.program_marks.proofs.Laws.{operands_one, operands_jump, operands_ifeq}
 use Rattle.program_marks.proofs.mark_operands.Goals as goal
 
 pub returns-in-AssignSelf : goal.returns-in-AssignSelf
-returns-in-AssignSelf c = search operands_self
-
-pub returns-in-AssignProgram : goal.returns-in-AssignProgram
-returns-in-AssignProgram c = search operands_program
-
-pub returns-in-Show : goal.returns-in-Show
-returns-in-Show c = search operands_show
+returns-in-AssignSelf c = search operands_one
 
 pub returns-in-Jump : goal.returns-in-Jump
 returns-in-Jump c = search operands_jump

@@ -1,4 +1,3 @@
-use mathlib.Core.Bool.{true}
 use Rattle.words.proofs.Laws.{upto_start}
 use Rattle.program_names.proofs.Laws.{same_end, same_differ, same_again, same_done}
 use Rattle.program_names.proofs.same_bytes.Goals as goal

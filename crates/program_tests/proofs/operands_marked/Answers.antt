@@ -1,15 +1,9 @@
 use Rattle.program_parts.specs.Tests.{operands_marked}
-use Rattle.program_tests.proofs.Laws.{marked_self, marked_program, marked_show, marked_jump, marked_ifeq}
+use Rattle.program_tests.proofs.Laws.{marked_one, marked_jump, marked_ifeq}
 use Rattle.program_tests.proofs.operands_marked.Goals as goal
 
 pub returns-in-AssignSelf : goal.returns-in-AssignSelf
-returns-in-AssignSelf c = search marked_self
-
-pub returns-in-AssignProgram : goal.returns-in-AssignProgram
-returns-in-AssignProgram c = search marked_program
-
-pub returns-in-Show : goal.returns-in-Show
-returns-in-Show c = search marked_show
+returns-in-AssignSelf c = search marked_one
 
 pub returns-in-Jump : goal.returns-in-Jump
 returns-in-Jump c = search marked_jump

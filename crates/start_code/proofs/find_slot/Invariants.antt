@@ -1,9 +1,5 @@
 use Rattle.start_code.proofs.Laws.{Finding}
-use Prim.Native.Nat.{◌-◌}
 use Rattle.start_code.proofs.find_slot.Given as goal
 
 abbrev pub invariant-loop-i : goal.invariant-loop-i
 invariant-loop-i l = Finding l.p l.name l.from l.z l.i
-
-abbrev pub decreases-loop-i : goal.decreases-loop-i
-decreases-loop-i l = 16 - l.i

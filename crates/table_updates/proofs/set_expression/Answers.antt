@@ -6,12 +6,10 @@ unfolding set_expression
 returns c =
     rw (
       c.set_word-3.ensures,
-      c.expression_b_of.ensures,
       c.wide-3.ensures,
       c.set_word-2.ensures,
-      c.expression_a_of.ensures,
       c.wide-2.ensures,
       c.set_word.ensures,
-      c.expression_kind_of.ensures,
       c.wide.ensures,
+      c.expression_words.ensures,
     )

@@ -6,15 +6,12 @@ unfolding set_instruction
 returns c =
     rw (
       c.set_word-4.ensures,
-      c.instruction_c_of.ensures,
       c.wide-4.ensures,
       c.set_word-3.ensures,
-      c.instruction_b_of.ensures,
       c.wide-3.ensures,
       c.set_word-2.ensures,
-      c.instruction_a_of.ensures,
       c.wide-2.ensures,
       c.set_word.ensures,
-      c.instruction_kind_of.ensures,
       c.wide.ensures,
+      c.instruction_words.ensures,
     )

@@ -1,29 +1,38 @@
-use Rattle.tables.proofs.Laws.{is_integer, is_literal, is_from_self, is_from_program, is_code, is_frame, is_not, is_operate, is_bad}
+use native.Mathlib.Omega.{arith}
+use Rattle.tables.specs.Entries.{expression_of}
+use Rattle.tables.proofs.Laws.{is_operate, is_bad}
 use Rattle.tables.proofs.expression_of.Goals as goal
 
-pub returns-then-k-eq0 : goal.returns-then-k-eq0
-returns-then-k-eq0 c = search is_integer
+pub returns-in-0 : goal.returns-in-0
+unfolding expression_of
+returns-in-0 c = rw c.in-0.is
 
-pub returns-then-k-eq1 : goal.returns-then-k-eq1
-returns-then-k-eq1 c = search is_literal
+pub returns-in-1 : goal.returns-in-1
+unfolding expression_of
+returns-in-1 c = rw c.in-1.is
 
-pub returns-then-k-eq2 : goal.returns-then-k-eq2
-returns-then-k-eq2 c = search is_from_self
+pub returns-in-2 : goal.returns-in-2
+unfolding expression_of
+returns-in-2 c = rw c.in-2.is
 
-pub returns-then-k-eq3 : goal.returns-then-k-eq3
-returns-then-k-eq3 c = search is_from_program
+pub returns-in-3 : goal.returns-in-3
+unfolding expression_of
+returns-in-3 c = rw c.in-3.is
 
-pub returns-then-k-eq4 : goal.returns-then-k-eq4
-returns-then-k-eq4 c = search is_code
+pub returns-in-4 : goal.returns-in-4
+unfolding expression_of
+returns-in-4 c = rw c.in-4.is
 
-pub returns-then-k-eq5 : goal.returns-then-k-eq5
-returns-then-k-eq5 c = search is_frame
+pub returns-in-5 : goal.returns-in-5
+unfolding expression_of
+returns-in-5 c = rw c.in-5.is
 
-pub returns-then-k-eq6 : goal.returns-then-k-eq6
-returns-then-k-eq6 c = search is_not
+pub returns-in-6 : goal.returns-in-6
+unfolding expression_of
+returns-in-6 c = rw c.in-6.is
 
-pub returns-then-k-lt16 : goal.returns-then-k-lt16
-returns-then-k-lt16 c = search is_operate
+pub returns-in-7-to-15 : goal.returns-in-7-to-15
+returns-in-7-to-15 c = is_operate _ _ _ (omega arith) (omega arith)
 
-pub returns : goal.returns
-returns c = search is_bad
+pub returns-in_default : goal.returns-in_default
+returns-in_default c = is_bad _ _ _ (omega arith)

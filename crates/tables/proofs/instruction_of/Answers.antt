@@ -1,20 +1,27 @@
-use Rattle.tables.proofs.Laws.{is_assign_self, is_assign_program, is_show, is_jump, is_ifeq, is_bad_instruction}
+use native.Mathlib.Omega.{arith}
+use Rattle.tables.specs.Entries.{instruction_of}
+use Rattle.tables.proofs.Laws.{is_bad_instruction}
 use Rattle.tables.proofs.instruction_of.Goals as goal
 
-pub returns-then-k-eq0 : goal.returns-then-k-eq0
-returns-then-k-eq0 c = search is_assign_self
+pub returns-in-0 : goal.returns-in-0
+unfolding instruction_of
+returns-in-0 c = rw c.in-0.is
 
-pub returns-then-k-eq1 : goal.returns-then-k-eq1
-returns-then-k-eq1 c = search is_assign_program
+pub returns-in-1 : goal.returns-in-1
+unfolding instruction_of
+returns-in-1 c = rw c.in-1.is
 
-pub returns-then-k-eq2 : goal.returns-then-k-eq2
-returns-then-k-eq2 c = search is_show
+pub returns-in-2 : goal.returns-in-2
+unfolding instruction_of
+returns-in-2 c = rw c.in-2.is
 
-pub returns-then-k-eq3 : goal.returns-then-k-eq3
-returns-then-k-eq3 c = search is_jump
+pub returns-in-3 : goal.returns-in-3
+unfolding instruction_of
+returns-in-3 c = rw c.in-3.is
 
-pub returns-then-k-eq4 : goal.returns-then-k-eq4
-returns-then-k-eq4 c = search is_ifeq
+pub returns-in-4 : goal.returns-in-4
+unfolding instruction_of
+returns-in-4 c = rw c.in-4.is
 
-pub returns : goal.returns
-returns c = search is_bad_instruction
+pub returns-in_default : goal.returns-in_default
+returns-in_default c = is_bad_instruction _ _ _ _ (omega arith)
