@@ -52,23 +52,16 @@ module _ (s : List ℕ) (n : ℕ) where
   unfolding far_tree
   far_is m = record { is = λ ts ss e f. ap (ltb 0) (m.is ts e ∙ tree_sum 8 ts ss (parse_sound (symbols ts) f)) ∙ far_ups (pieces ss) }
 
-pub frames_is : (s : List ℕ) (F n most : ℕ) → Sums s 4 n → most ≡ F → Decides (frames_tree F) s (leb most n)
+pub frames_is : (s : List ℕ) (F n : ℕ) → Sums s 4 n → Decides (frames_tree F) s (leb F n)
 unfolding frames_tree
-frames_is s F n most m h = record { is = λ ts ss e f. rw h (ap (leb F) (m.is ts e ∙ frames_are ts ss f)) }
+frames_is s F n m = record { is = λ ts ss e f. ap (leb F) (m.is ts e ∙ frames_are ts ss f) }
 
-module _ (s : List ℕ) (n less : ℕ) (m : Sums s 6 n) (l : Sums s 7 less) where
-  pub names_none : n < less → Decides path_names_tree s false
-  names_none h = record { is = λ ts ss e f. absurd (none (total path_names (pieces ss)) (m.is ts e) (l.is ts e) (path_names_are ts ss f)) }
-    where
-      none : {a b : ℕ} (c : ℕ) → n ≡ a → less ≡ b → a ≡ c + b → ⊥
-      none c x y z = omega arith
-
-  pub names_are : less ≤ n → Decides path_names_tree s (ltb 2048 (n - less))
-  unfolding path_names_tree
-  names_are h = record { is = λ ts ss e f. ap (ltb 2048) (rest_is (total path_names (pieces ss)) (m.is ts e) (l.is ts e) (path_names_are ts ss f)) }
-    where
-      rest_is : {a b : ℕ} (c : ℕ) → n ≡ a → less ≡ b → a ≡ c + b → n - less ≡ c
-      rest_is c x y z = omega arith
+pub names_are : (s : List ℕ) (n less : ℕ) → Sums s 6 n → Sums s 7 less → (r : ℕ) → r ≡ n - less → Decides path_names_tree s (ltb 2048 r)
+unfolding path_names_tree
+names_are s n less m l r q = record { is = λ ts ss e f. ap (ltb 2048) (rest_is (total path_names (pieces ss)) (m.is ts e) (l.is ts e) (path_names_are ts ss f)) }
+  where
+    rest_is : {a b : ℕ} (c : ℕ) → n ≡ a → less ≡ b → a ≡ c + b → r ≡ c
+    rest_is c x y z = omega arith
 
 -- ---- Number 9
 

@@ -20,7 +20,7 @@ use Rattle.sweep.specs.Kinds.{kinds}
 use Rattle.sweep.specs.Decides.{Short}
 use Rattle.sweep.proofs.Loop.{Going, Gives, go_start, go_end, go_none, go_done, go_again}
 use Rattle.sums.specs.Weights.{one_if, opened, closed, curly_after, square_after, further_after, expression_weight, plain_weight, mark_weight, placed_weight, up_weight, path_weight, weight, sum_of, whole_sum, Sums}
-use Rattle.sums.specs.Totals.{Totalled, nothing, sums_of, Climbs, Counts, Room}
+use Rattle.sums.specs.Totals.{Totalled, nothing, Climbs, Counts, Room}
 use Rattle.sums.specs.declared.Totals.{Totals}
 use Rattle.sums.specs.declared.Tally.{Tally}
 
@@ -55,41 +55,44 @@ module _ (c q : ℕ) where
 -- ---- A token
 
 -- a tally with another number in one place
+abbrev pub with_totals : Tally → Totals → Tally
+with_totals t s = record { totals = s; curly = t.curly; square = t.square; further = t.further }
+
 abbrev pub with_expressions : Tally → ℕ → Tally
-with_expressions t n = record { expressions = n; instructions = t.instructions; strings = t.strings; codes = t.codes; frames = t.frames; misplaced = t.misplaced; names = t.names; named = t.named; far = t.far; curly = t.curly; square = t.square; further = t.further }
+with_expressions t n = with_totals t (record { expressions = n; instructions = t.totals.instructions; strings = t.totals.strings; codes = t.totals.codes; frames = t.totals.frames; misplaced = t.totals.misplaced; names = t.totals.names; named = t.totals.named; far = t.totals.far })
 
 abbrev pub with_instructions : Tally → ℕ → Tally
-with_instructions t n = record { expressions = t.expressions; instructions = n; strings = t.strings; codes = t.codes; frames = t.frames; misplaced = t.misplaced; names = t.names; named = t.named; far = t.far; curly = t.curly; square = t.square; further = t.further }
+with_instructions t n = with_totals t (record { expressions = t.totals.expressions; instructions = n; strings = t.totals.strings; codes = t.totals.codes; frames = t.totals.frames; misplaced = t.totals.misplaced; names = t.totals.names; named = t.totals.named; far = t.totals.far })
 
 abbrev pub with_strings : Tally → ℕ → Tally
-with_strings t n = record { expressions = t.expressions; instructions = t.instructions; strings = n; codes = t.codes; frames = t.frames; misplaced = t.misplaced; names = t.names; named = t.named; far = t.far; curly = t.curly; square = t.square; further = t.further }
+with_strings t n = with_totals t (record { expressions = t.totals.expressions; instructions = t.totals.instructions; strings = n; codes = t.totals.codes; frames = t.totals.frames; misplaced = t.totals.misplaced; names = t.totals.names; named = t.totals.named; far = t.totals.far })
 
 abbrev pub with_codes : Tally → ℕ → Tally
-with_codes t n = record { expressions = t.expressions; instructions = t.instructions; strings = t.strings; codes = n; frames = t.frames; misplaced = t.misplaced; names = t.names; named = t.named; far = t.far; curly = t.curly; square = t.square; further = t.further }
+with_codes t n = with_totals t (record { expressions = t.totals.expressions; instructions = t.totals.instructions; strings = t.totals.strings; codes = n; frames = t.totals.frames; misplaced = t.totals.misplaced; names = t.totals.names; named = t.totals.named; far = t.totals.far })
 
 abbrev pub with_frames : Tally → ℕ → Tally
-with_frames t n = record { expressions = t.expressions; instructions = t.instructions; strings = t.strings; codes = t.codes; frames = n; misplaced = t.misplaced; names = t.names; named = t.named; far = t.far; curly = t.curly; square = t.square; further = t.further }
+with_frames t n = with_totals t (record { expressions = t.totals.expressions; instructions = t.totals.instructions; strings = t.totals.strings; codes = t.totals.codes; frames = n; misplaced = t.totals.misplaced; names = t.totals.names; named = t.totals.named; far = t.totals.far })
 
 abbrev pub with_misplaced : Tally → ℕ → Tally
-with_misplaced t n = record { expressions = t.expressions; instructions = t.instructions; strings = t.strings; codes = t.codes; frames = t.frames; misplaced = n; names = t.names; named = t.named; far = t.far; curly = t.curly; square = t.square; further = t.further }
+with_misplaced t n = with_totals t (record { expressions = t.totals.expressions; instructions = t.totals.instructions; strings = t.totals.strings; codes = t.totals.codes; frames = t.totals.frames; misplaced = n; names = t.totals.names; named = t.totals.named; far = t.totals.far })
 
 abbrev pub with_names : Tally → ℕ → Tally
-with_names t n = record { expressions = t.expressions; instructions = t.instructions; strings = t.strings; codes = t.codes; frames = t.frames; misplaced = t.misplaced; names = n; named = t.named; far = t.far; curly = t.curly; square = t.square; further = t.further }
+with_names t n = with_totals t (record { expressions = t.totals.expressions; instructions = t.totals.instructions; strings = t.totals.strings; codes = t.totals.codes; frames = t.totals.frames; misplaced = t.totals.misplaced; names = n; named = t.totals.named; far = t.totals.far })
 
 abbrev pub with_named : Tally → ℕ → Tally
-with_named t n = record { expressions = t.expressions; instructions = t.instructions; strings = t.strings; codes = t.codes; frames = t.frames; misplaced = t.misplaced; names = t.names; named = n; far = t.far; curly = t.curly; square = t.square; further = t.further }
+with_named t n = with_totals t (record { expressions = t.totals.expressions; instructions = t.totals.instructions; strings = t.totals.strings; codes = t.totals.codes; frames = t.totals.frames; misplaced = t.totals.misplaced; names = t.totals.names; named = n; far = t.totals.far })
 
 abbrev pub with_far : Tally → ℕ → Tally
-with_far t n = record { expressions = t.expressions; instructions = t.instructions; strings = t.strings; codes = t.codes; frames = t.frames; misplaced = t.misplaced; names = t.names; named = t.named; far = n; curly = t.curly; square = t.square; further = t.further }
+with_far t n = with_totals t (record { expressions = t.totals.expressions; instructions = t.totals.instructions; strings = t.totals.strings; codes = t.totals.codes; frames = t.totals.frames; misplaced = t.totals.misplaced; names = t.totals.names; named = t.totals.named; far = n })
 
 abbrev pub with_curly : Tally → ℕ → Tally
-with_curly t n = record { expressions = t.expressions; instructions = t.instructions; strings = t.strings; codes = t.codes; frames = t.frames; misplaced = t.misplaced; names = t.names; named = t.named; far = t.far; curly = n; square = t.square; further = t.further }
+with_curly t n = record { totals = t.totals; curly = n; square = t.square; further = t.further }
 
 abbrev pub with_square : Tally → ℕ → Tally
-with_square t n = record { expressions = t.expressions; instructions = t.instructions; strings = t.strings; codes = t.codes; frames = t.frames; misplaced = t.misplaced; names = t.names; named = t.named; far = t.far; curly = t.curly; square = n; further = t.further }
+with_square t n = record { totals = t.totals; curly = t.curly; square = n; further = t.further }
 
 abbrev pub with_further : Tally → ℕ → Tally
-with_further t n = record { expressions = t.expressions; instructions = t.instructions; strings = t.strings; codes = t.codes; frames = t.frames; misplaced = t.misplaced; names = t.names; named = t.named; far = t.far; curly = t.curly; square = t.square; further = n }
+with_further t n = record { totals = t.totals; curly = t.curly; square = t.square; further = n }
 
 -- a mark counts outside code
 placed : (what c k o : ℕ) → o ≡ one_if c 0 → placed_weight what c k ≡ o * mark_weight what k
@@ -169,20 +172,20 @@ module _ (t : Tally) (l levels : ℕ) (is : levels ≡ t.square - 1) where
   abbrev weights : (ℕ → ℕ) → Type 0
   weights = Nine (λ what. up_weight what t.square t.further l)
 
-  pub climb_first : (l ≡ 7 → ⊥) → Climbs t l (with_further (with_names t (t.names + levels)) 0)
+  pub climb_first : (l ≡ 7 → ⊥) → Climbs t l (with_further (with_names t (t.totals.names + levels)) 0)
   climb_first n =
       let u : weights (λ what. when eqb what 6 then t.square - 1 else 0) = nine _ _ (λ what. up_first what t.square t.further l n) in
       let f = further_first l t.further n in
       search rules
 
-  pub climb_near : l ≡ 7 → t.further < levels → Climbs t l (with_named (with_further t (t.further + 1)) (t.named + 1))
+  pub climb_near : l ≡ 7 → t.further < levels → Climbs t l (with_named (with_further t (t.further + 1)) (t.totals.named + 1))
   unfolding one_if
   climb_near e h =
       let u : weights (λ what. one_if what 7) = nine _ _ (λ what. up_near what t.square t.further l e (omega arith)) in
       let f = further_more l t.further e in
       search rules
 
-  pub climb_far : l ≡ 7 → levels ≤ t.further → Climbs t l (with_far (with_further t (t.further + 1)) (t.far + 1))
+  pub climb_far : l ≡ 7 → levels ≤ t.further → Climbs t l (with_far (with_further t (t.further + 1)) (t.totals.far + 1))
   unfolding one_if
   climb_far e h =
       let u : weights (λ what. one_if what 8) = nine _ _ (λ what. up_far what t.square t.further l e (omega arith)) in
@@ -195,35 +198,35 @@ past_brackets k a b c d h = omega arith
 
 -- a token of kind k, after one of kind l
 module _ (t : Tally) (l k : ℕ) where
-  pub count_self : k ≡ 1 → (o : ℕ) → o ≡ one_if t.curly 0 → Counts t l k (with_misplaced t (t.misplaced + o))
+  pub count_self : k ≡ 1 → (o : ℕ) → o ≡ one_if t.curly 0 → Counts t l k (with_misplaced t (t.totals.misplaced + o))
   unfolding weight plain_weight expression_weight mark_weight path_weight curly_after square_after further_after one_if
   count_self e o eo = rw e (let m = marks t.curly 1 o eo in search rules)
 
-  pub count_show : k ≡ 2 → Counts t l k (with_expressions t (t.expressions + 1))
+  pub count_show : k ≡ 2 → Counts t l k (with_expressions t (t.totals.expressions + 1))
   unfolding weight plain_weight expression_weight mark_weight path_weight curly_after square_after further_after one_if
   count_show e = rw e (let m = marks t.curly 2 _ refl in search rules)
 
-  pub count_jump : k ≡ 3 → Counts t l k (with_expressions t (t.expressions + 2))
+  pub count_jump : k ≡ 3 → Counts t l k (with_expressions t (t.totals.expressions + 2))
   unfolding weight plain_weight expression_weight mark_weight path_weight curly_after square_after further_after one_if
   count_jump e = rw e (let m = marks t.curly 3 _ refl in search rules)
 
-  pub count_ifeq : k ≡ 4 → Counts t l k (with_expressions t (t.expressions + 3))
+  pub count_ifeq : k ≡ 4 → Counts t l k (with_expressions t (t.totals.expressions + 3))
   unfolding weight plain_weight expression_weight mark_weight path_weight curly_after square_after further_after one_if
   count_ifeq e = rw e (let m = marks t.curly 4 _ refl in search rules)
 
-  pub count_assign : k ≡ 6 → Counts t l k (with_expressions t (t.expressions + 1))
+  pub count_assign : k ≡ 6 → Counts t l k (with_expressions t (t.totals.expressions + 1))
   unfolding weight plain_weight expression_weight mark_weight path_weight curly_after square_after further_after one_if
   count_assign e = rw e (let m = marks t.curly 6 _ refl in search rules)
 
-  pub count_bang : k ≡ 9 → (o : ℕ) → o ≡ one_if t.curly 0 → Counts t l k (with_misplaced (with_expressions t (t.expressions + 1)) (t.misplaced + o))
+  pub count_bang : k ≡ 9 → (o : ℕ) → o ≡ one_if t.curly 0 → Counts t l k (with_misplaced (with_expressions t (t.totals.expressions + 1)) (t.totals.misplaced + o))
   unfolding weight plain_weight expression_weight mark_weight path_weight curly_after square_after further_after one_if
   count_bang e o eo = rw e (let m = marks t.curly 9 o eo in search rules)
 
-  pub count_semicolon : k ≡ 10 → Counts t l k (with_instructions t (t.instructions + 1))
+  pub count_semicolon : k ≡ 10 → Counts t l k (with_instructions t (t.totals.instructions + 1))
   unfolding weight plain_weight expression_weight mark_weight path_weight curly_after square_after further_after one_if
   count_semicolon e = rw e (let m = marks t.curly 10 _ refl in search rules)
 
-  pub count_open : k ≡ 12 → (o : ℕ) → o ≡ one_if t.curly 0 → Counts t l k (with_square (with_frames t (t.frames + o)) (t.square + o))
+  pub count_open : k ≡ 12 → (o : ℕ) → o ≡ one_if t.curly 0 → Counts t l k (with_square (with_frames t (t.totals.frames + o)) (t.square + o))
   unfolding weight plain_weight expression_weight mark_weight path_weight curly_after square_after further_after one_if
   count_open e o eo = rw e (let m = marks t.curly 12 o eo in let g = opened_is t.curly t.square o eo in search rules)
 
@@ -239,15 +242,15 @@ module _ (t : Tally) (l k : ℕ) where
   unfolding weight plain_weight expression_weight mark_weight path_weight curly_after square_after further_after one_if
   count_close_curly e c ec = rw e (let m = marks t.curly 15 _ refl in search rules)
 
-  pub count_string : k ≡ 27 → Counts t l k (with_strings t (t.strings + 1))
+  pub count_string : k ≡ 27 → Counts t l k (with_strings t (t.totals.strings + 1))
   unfolding weight plain_weight expression_weight mark_weight path_weight curly_after square_after further_after one_if
   count_string e = rw e (let m = marks t.curly 27 _ refl in search rules)
 
-  pub count_code : k ≡ 28 → Counts t l k (with_codes t (t.codes + 1))
+  pub count_code : k ≡ 28 → Counts t l k (with_codes t (t.totals.codes + 1))
   unfolding weight plain_weight expression_weight mark_weight path_weight curly_after square_after further_after one_if
   count_code e = rw e (let m = marks t.curly 28 _ refl in search rules)
 
-  pub count_name : k ≡ 25 → l ≡ 7 → Counts t l k (with_names t (t.names + 1))
+  pub count_name : k ≡ 25 → l ≡ 7 → Counts t l k (with_names t (t.totals.names + 1))
   unfolding weight plain_weight expression_weight mark_weight path_weight curly_after square_after further_after one_if
   count_name e d = rw (e, d) (let m = marks t.curly 25 _ refl in search rules)
 
@@ -255,7 +258,7 @@ module _ (t : Tally) (l k : ℕ) where
   unfolding weight plain_weight expression_weight mark_weight curly_after square_after further_after
   count_slot e n = rw e (let m = marks t.curly 25 _ refl in let j = nine _ _ (λ what. slot_path what t.square t.further l n) in search rules)
 
-  pub count_up : k ≡ 8 → (o : ℕ) → o ≡ one_if t.curly 0 → (r : Tally) → Climbs (with_misplaced t (t.misplaced + o)) l r → Counts t l k r
+  pub count_up : k ≡ 8 → (o : ℕ) → o ≡ one_if t.curly 0 → (r : Tally) → Climbs (with_misplaced t (t.totals.misplaced + o)) l r → Counts t l k r
   unfolding weight plain_weight expression_weight mark_weight path_weight curly_after square_after one_if
   count_up e o eo r d =
       rw e
@@ -315,10 +318,13 @@ module _ (t : Tally) (l k : ℕ) where
     pub count_high : 25 ≤ k → Counts t l k t
     count_high h = let w = bare false true _ refl (le-ltb k 16 (omega arith)) (lt-ltb 24 k (omega arith)) in let c = curly_bare in let q = square_bare in let f = further_bare in search rules
 
-    pub count_operator : 12 ≤ k → k < 25 → (o : ℕ) → o ≡ one_if t.curly 0 → Counts t l k (with_misplaced (with_expressions t (t.expressions + 2)) (t.misplaced + o))
+    count_operator : 12 ≤ k → k < 25 → (o : ℕ) → o ≡ one_if t.curly 0 → Counts t l k (with_misplaced (with_expressions t (t.totals.expressions + 2)) (t.totals.misplaced + o))
     unfolding one_if
     count_operator g h o eo =
         let w = bare false false o eo (le-ltb k 16 (past_brackets k n12 n13 n14 n15 g)) (le-ltb 24 k (omega arith)) in let c = curly_bare in let q = square_bare in let f = further_bare in search rules
+
+  pub count_operators : 16 ≤ k → k < 25 → (o : ℕ) → o ≡ one_if t.curly 0 → Counts t l k (with_misplaced (with_expressions t (t.totals.expressions + 2)) (t.totals.misplaced + o))
+  count_operators g h = count_operator (λ e. omega arith) (λ e. omega arith) (λ e. omega arith) (λ e. omega arith) (λ e. omega arith) (λ e. omega arith) (λ e. omega arith) (λ e. omega arith) (λ e. omega arith) (λ e. omega arith) (λ e. omega arith) (λ e. omega arith) (λ e. omega arith) (λ e. omega arith) (λ e. omega arith) (omega arith) h
 
 -- ---- How large it is
 
@@ -426,24 +432,23 @@ module _ (s : List ℕ) (what at n c q f l : ℕ) (i : Summing s what at n c q f
 
 -- the nine sums of t, and last token of kind l, at a position
 pub record Tallying (s : List ℕ) (at : ℕ) (t : Tally) (l : ℕ) : Type 0 where
-  pub expressions : Summing s 0 at t.expressions t.curly t.square t.further l
-  pub instructions : Summing s 1 at t.instructions t.curly t.square t.further l
-  pub strings : Summing s 2 at t.strings t.curly t.square t.further l
-  pub codes : Summing s 3 at t.codes t.curly t.square t.further l
-  pub frames : Summing s 4 at t.frames t.curly t.square t.further l
-  pub misplaced : Summing s 5 at t.misplaced t.curly t.square t.further l
-  pub names : Summing s 6 at t.names t.curly t.square t.further l
-  pub named : Summing s 7 at t.named t.curly t.square t.further l
-  pub far : Summing s 8 at t.far t.curly t.square t.further l
+  pub expressions : Summing s 0 at t.totals.expressions t.curly t.square t.further l
+  pub instructions : Summing s 1 at t.totals.instructions t.curly t.square t.further l
+  pub strings : Summing s 2 at t.totals.strings t.curly t.square t.further l
+  pub codes : Summing s 3 at t.totals.codes t.curly t.square t.further l
+  pub frames : Summing s 4 at t.totals.frames t.curly t.square t.further l
+  pub misplaced : Summing s 5 at t.totals.misplaced t.curly t.square t.further l
+  pub names : Summing s 6 at t.totals.names t.curly t.square t.further l
+  pub named : Summing s 7 at t.totals.named t.curly t.square t.further l
+  pub far : Summing s 8 at t.totals.far t.curly t.square t.further l
 
 pub tally_start : (s : List ℕ) (t : Tally) → t ≡ nothing → Tallying s 0 t 0
 unfolding nothing
 tally_start s t e = rw e (record { expressions = sum_start s 0; instructions = sum_start s 1; strings = sum_start s 2; codes = sum_start s 3; frames = sum_start s 4; misplaced = sum_start s 5; names = sum_start s 6; named = sum_start s 7; far = sum_start s 8 })
 
 module _ (s : List ℕ) (at : ℕ) (t : Tally) (l : ℕ) (i : Tallying s at t l) where
-  ends : ((what n : ℕ) → Summing s what at n t.curly t.square t.further l → Sums s what n) → (r : Totals) → r ≡ sums_of t → Totalled s r
-  unfolding sums_of
-  ends h r e = rw e (record {
+  ends : ((what n : ℕ) → Summing s what at n t.curly t.square t.further l → Sums s what n) → Totalled s t.totals
+  ends h = record {
     expressions = h 0 _ i.expressions;
     instructions = h 1 _ i.instructions;
     strings = h 2 _ i.strings;
@@ -453,9 +458,9 @@ module _ (s : List ℕ) (at : ℕ) (t : Tally) (l : ℕ) (i : Tallying s at t l)
     names = h 6 _ i.names;
     named = h 7 _ i.named;
     far = h 8 _ i.far;
-  })
+  }
 
-  pub tally_done : length s ≤ at → (r : Totals) → r ≡ sums_of t → Totalled s r
+  pub tally_done : length s ≤ at → Totalled s t.totals
   tally_done h = ends (λ what n j. sum_done s what at n _ _ _ l j h)
 
   pub tally_room : Short s → at < length s → Room t
@@ -475,10 +480,10 @@ module _ (s : List ℕ) (at : ℕ) (t : Tally) (l : ℕ) (i : Tallying s at t l)
   }
 
   module _ (r : TokenRead) (found : TokenAt class s at r) where
-    pub tally_end : r ≡ TokenRead.End → (u : Totals) → u ≡ sums_of t → Totalled s u
+    pub tally_end : r ≡ TokenRead.End → Totalled s t.totals
     tally_end e = ends (λ what n j. sum_end s what at n _ _ _ l j r found e)
 
-    pub tally_none : r ≡ TokenRead.NoToken → (u : Totals) → u ≡ sums_of t → Totalled s u
+    pub tally_none : r ≡ TokenRead.NoToken → Totalled s t.totals
     tally_none e = ends (λ what n j. sum_none s what at n _ _ _ l j r found e)
 
     pub tally_again : (k a p w : ℕ) → r ≡ TokenRead.Token k a p w → (u : Tally) → Counts t l k u → Short s → at < length s → Tallying s p u k

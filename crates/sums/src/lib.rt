@@ -8,10 +8,10 @@
 
 ghost use Rattle.std.specs.Prelude.{◌≡◌};
 ghost use Rattle.sums.specs.Weights.{one_if, closed};
-ghost use Rattle.sums.specs.Totals.{Room, UpRoom, nothing, sums_of, Climbs, Counts};
+ghost use Rattle.sums.specs.Totals.{Room, UpRoom, nothing, Climbs, Counts};
 
 // The nine sums, by what is summed.
-#[derive(Clone, Copy)]
+#[derive(Clone, Copy, Default)]
 pub struct Totals {
     pub expressions: usize,
     pub instructions: usize,
@@ -25,17 +25,9 @@ pub struct Totals {
 }
 
 // The sums and what they depend on: open `{`, open `[` outside code, further `^` of the path.
-#[derive(Clone, Copy)]
+#[derive(Clone, Copy, Default)]
 pub struct Tally {
-    pub expressions: usize,
-    pub instructions: usize,
-    pub strings: usize,
-    pub codes: usize,
-    pub frames: usize,
-    pub misplaced: usize,
-    pub names: usize,
-    pub named: usize,
-    pub far: usize,
+    pub totals: Totals,
     pub curly: usize,
     pub square: usize,
     pub further: usize,
@@ -55,7 +47,7 @@ fn closed(curly: usize, square: usize) -> usize
     if curly != 0 {
         return square;
     }
-    sweep::one_less(square)
+    square.saturating_sub(1)
 }
 
 // What a `^` adds to the paths, after a token of kind last.
@@ -64,18 +56,18 @@ fn up(t: Tally, last: u32) -> Tally
     ensures { Climbs t last result }
 {
     let mut r = t;
-    let levels = sweep::one_less(t.square);
+    let levels = t.square.saturating_sub(1);
     if last != 7 {
-        r.names = t.names + levels;
+        r.totals.names += levels;
         r.further = 0;
         return r;
     }
-    r.further = t.further + 1;
+    r.further += 1;
     if t.further < levels {
-        r.named = t.named + 1;
+        r.totals.named += 1;
         r
     } else {
-        r.far = t.far + 1;
+        r.totals.far += 1;
         r
     }
 }
@@ -88,42 +80,42 @@ pub fn count(t: Tally, last: u32, k: u32) -> Tally
     let mut r = t;
     match k {
         1 => {
-            r.misplaced = t.misplaced + outside(t.curly);
+            r.totals.misplaced += outside(t.curly);
             r
         }
         2 => {
-            r.expressions = t.expressions + 1;
+            r.totals.expressions += 1;
             r
         }
         3 => {
-            r.expressions = t.expressions + 2;
+            r.totals.expressions += 2;
             r
         }
         4 => {
-            r.expressions = t.expressions + 3;
+            r.totals.expressions += 3;
             r
         }
         6 => {
-            r.expressions = t.expressions + 1;
+            r.totals.expressions += 1;
             r
         }
         8 => {
-            r.misplaced = t.misplaced + outside(t.curly);
+            r.totals.misplaced += outside(t.curly);
             up(r, last)
         }
         9 => {
-            r.expressions = t.expressions + 1;
-            r.misplaced = t.misplaced + outside(t.curly);
+            r.totals.expressions += 1;
+            r.totals.misplaced += outside(t.curly);
             r
         }
         10 => {
-            r.instructions = t.instructions + 1;
+            r.totals.instructions += 1;
             r
         }
         12 => {
             let o = outside(t.curly);
-            r.frames = t.frames + o;
-            r.square = t.square + o;
+            r.totals.frames += o;
+            r.square += o;
             r
         }
         13 => {
@@ -131,30 +123,30 @@ pub fn count(t: Tally, last: u32, k: u32) -> Tally
             r
         }
         14 => {
-            r.curly = t.curly + 1;
+            r.curly += 1;
             r
         }
         15 => {
-            r.curly = sweep::one_less(t.curly);
+            r.curly = t.curly.saturating_sub(1);
             r
         }
         16..=24 => {
-            r.expressions = t.expressions + 2;
-            r.misplaced = t.misplaced + outside(t.curly);
+            r.totals.expressions += 2;
+            r.totals.misplaced += outside(t.curly);
             r
         }
         25 => {
             if last == 7 {
-                r.names = t.names + 1;
+                r.totals.names += 1;
             }
             r
         }
         27 => {
-            r.strings = t.strings + 1;
+            r.totals.strings += 1;
             r
         }
         28 => {
-            r.codes = t.codes + 1;
+            r.totals.codes += 1;
             r
         }
         _ => r,
@@ -162,38 +154,9 @@ pub fn count(t: Tally, last: u32, k: u32) -> Tally
 }
 
 // No token has come.
+#[tactic(auto, unfolding(crate::specs::Totals::nothing))]
 pub fn nothing() -> Tally
     ensures { result ≡ nothing }
 {
-    Tally {
-        expressions: 0,
-        instructions: 0,
-        strings: 0,
-        codes: 0,
-        frames: 0,
-        misplaced: 0,
-        names: 0,
-        named: 0,
-        far: 0,
-        curly: 0,
-        square: 0,
-        further: 0,
-    }
-}
-
-// The sums of a tally.
-pub fn sums_of(t: Tally) -> Totals
-    ensures { result ≡ sums_of t }
-{
-    Totals {
-        expressions: t.expressions,
-        instructions: t.instructions,
-        strings: t.strings,
-        codes: t.codes,
-        frames: t.frames,
-        misplaced: t.misplaced,
-        names: t.names,
-        named: t.named,
-        far: t.far,
-    }
+    Tally::default()
 }

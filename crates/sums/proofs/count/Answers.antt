@@ -1,4 +1,5 @@
-use Rattle.sums.proofs.Laws.{outside_fits, count_self, count_show, count_jump, count_ifeq, count_assign, count_up, count_bang, count_semicolon, count_open, count_close, count_open_curly, count_close_curly, count_name, count_slot, count_string, count_code, count_operator, count_low, count_high}
+use native.Mathlib.Omega.{arith}
+use Rattle.sums.proofs.Laws.{outside_fits, count_self, count_show, count_jump, count_ifeq, count_assign, count_up, count_bang, count_semicolon, count_open, count_close, count_open_curly, count_close_curly, count_name, count_slot, count_string, count_code, count_operators, count_low, count_high}
 use Rattle.sums.proofs.count.Goals as goal
 
 pub overflow_add-r : goal.overflow_add-r
@@ -68,7 +69,7 @@ pub returns-in-28 : goal.returns-in-28
 returns-in-28 c = search count_code
 
 pub returns-in-16-to-24 : goal.returns-in-16-to-24
-returns-in-16-to-24 c = search count_operator
+returns-in-16-to-24 c = count_operators _ _ _ (omega (arith, c.in-16-to-24)) (omega (arith, c.in-16-to-24)) _ c.outside-in-16-to-24.ensures
 
 pub returns-in_default : goal.returns-in_default
 returns-in_default c = search count_low
