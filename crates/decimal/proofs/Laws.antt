@@ -1,18 +1,21 @@
 -- The loop that writes digits from the last to the first, their slice, the sign, and how many bytes they are. Assumes nothing.
-use Prim.Native.Nat.{ℕ, suc, ◌+◌, ◌-◌, ◌*◌, ◌/◌, ◌%◌, ◌^◌, ◌≤◌, ◌<◌}
-use mathlib.Core.Path.{◌≡◌, ◌∙◌, ap, sym}
+use Prim.Native.Nat.{ℕ, zero, suc, max, ◌+◌, ◌-◌, ◌*◌, ◌/◌, ◌%◌, ◌^◌, ◌≤◌, ◌<◌}
+use mathlib.Core.Path.{◌≡◌, refl, ◌∙◌, ap, sym}
+use mathlib.Core.Bool.{true, false}
 use mathlib.Core.List.{List, [], ◌∷◌, ◌++◌, append-nil}
 use native.Mathlib.Omega.{arith}
-use native.Mathlib.Nat.{pow-suc}
+use native.Mathlib.Nat.{pow-suc, one-le-pow}
 use native.Mathlib.Decide.{ℕ_discrete}
 use lib.ListN.{length, set, take, drop, length-set, length-drop}
 use lib.Seq.{take_all, drop-cons, drop-length, drop-set-lt, get_or-set_same, append_snoc}
-use lib.IntN.{ℤ, pos, negsuc}
+use lib.IntN.{ℤ, pos, negsuc, nat_abs}
+use lib.Signed.{le_z, lt_z}
+use borrow.Author.Tests.{le-leb, le-ltb}
 use mir.Syntax.{w32}
-use mir.Val.{SFits}
-use Rattle.ints.specs.Ints.{word_of}
+use mir.Val.{to_z, of_z, bool_byte, SFits}
+use mir.ValLaws.{to_z-of_z}
 use Rattle.framed.specs.Values.{digits_within, decimal}
-use Rattle.framed.proofs.Digits.{digits_one, digits_more, digits_bound}
+use Rattle.framed.proofs.Digits.{digits_one, digits_more, digits_bound, digits_count}
 use Rattle.decimal.specs.Decimal.{Holds}
 
 -- ---- digits: what is left of the number, before what has been written, gives the whole
@@ -104,34 +107,34 @@ held_bytes room bytes start bs a =
     let l = length-drop start bytes in
     take_all (11 - start) (drop start bytes) (omega arith) ∙ a.are
 
--- ---- decimal and size: a number that is not negative is its word, and a negative one is what its word wants to 2 ^ 32
+-- ---- decimal and size: the code's integer z is seen as to_z (of_z z), and w is its digits' number
 
-module _ (z : ℤ) (f : SFits w32 z) (w : ℕ) (ew : w ≡ word_of z) where
-  up_is : w < 2147483648 → digits_within (suc w) w ≡ decimal z
-  unfolding decimal word_of
-  up_is lt = go z f ew
+module _ (z : ℤ) (f : SFits w32 z) (w : ℕ) (ew : w ≡ nat_abs (to_z w32 (of_z w32 z))) where
+  seen : to_z w32 (of_z w32 z) ≡ z
+  seen = to_z-of_z w32 z f
+
+  up_is : le_z (pos 0) (to_z w32 (of_z w32 z)) ≡ true → digits_within (suc w) w ≡ decimal z
+  unfolding decimal
+  up_is t = go z (ew ∙ ap nat_abs seen) (rw seen at t)
     where
-      go : (y : ℤ) → SFits w32 y → w ≡ word_of y → digits_within (suc w) w ≡ decimal y
-      go (pos n) g e = ap (λ (k : ℕ). digits_within (suc k) k) e
-      go (negsuc n) g e = let l : n < 2 ^ 31 = g.sfits in let q : w ≡ 2 ^ 32 - suc n = e in absurd (omega arith)
+      go : (y : ℤ) → w ≡ nat_abs y → le_z (pos 0) y ≡ true → digits_within (suc w) w ≡ decimal y
+      go (pos n) e t = ap (λ (k : ℕ). digits_within (suc k) k) e
+      go (negsuc n) e t = cc
 
-  down_is : 2147483648 ≤ w → 45 ∷ digits_within (suc (4294967295 - w + 1)) (4294967295 - w + 1) ≡ decimal z
-  unfolding decimal word_of
-  down_is le = go z f ew
+  down_is : le_z (pos 0) (to_z w32 (of_z w32 z)) ≡ false → 45 ∷ digits_within (suc w) w ≡ decimal z
+  unfolding decimal
+  down_is t = go z (ew ∙ ap nat_abs seen) (rw seen at t)
     where
-      go : (y : ℤ) → SFits w32 y → w ≡ word_of y → 45 ∷ digits_within (suc (4294967295 - w + 1)) (4294967295 - w + 1) ≡ decimal y
-      go (pos n) g e = let l : n < 2 ^ 31 = g.sfits in let q : w ≡ n = e in absurd (omega arith)
-      go (negsuc n) g e =
-          let l : n < 2 ^ 31 = g.sfits in
-          let q : w ≡ 2 ^ 32 - suc n = e in
-          ap (λ (k : ℕ). 45 ∷ digits_within (suc k) k) {x = 4294967295 - w + 1} {y = suc n} (omega arith)
+      go : (y : ℤ) → w ≡ nat_abs y → le_z (pos 0) y ≡ false → 45 ∷ digits_within (suc w) w ≡ decimal y
+      go (pos n) e t = let l = le-leb 0 n (omega arith) in cc
+      go (negsuc n) e t = ap (λ (k : ℕ). 45 ∷ digits_within (suc k) k) e
 
-  pub decimal_up : w < 2147483648 → (bytes : List ℕ) (start : ℕ) → Holds 1 bytes start (digits_within (suc w) w) → Holds 0 bytes start (decimal z)
-  decimal_up lt bytes start h = record { size = h.size; before = omega arith; inside = h.inside; are = h.are ∙ up_is lt }
+  pub decimal_up : le_z (pos 0) (to_z w32 (of_z w32 z)) ≡ true → {bytes : List ℕ} {start : ℕ} → Holds 1 bytes start (digits_within (suc w) w) → Holds 0 bytes start (decimal z)
+  decimal_up t h = record { size = h.size; before = omega arith; inside = h.inside; are = h.are ∙ up_is t }
 
-  pub decimal_down : 2147483648 ≤ w → (bytes : List ℕ) (start : ℕ) → Holds 1 bytes start (digits_within (suc (4294967295 - w + 1)) (4294967295 - w + 1))
+  pub decimal_down : le_z (pos 0) (to_z w32 (of_z w32 z)) ≡ false → {bytes : List ℕ} {start : ℕ} → Holds 1 bytes start (digits_within (suc w) w)
       → Holds 0 (set bytes (start - 1) 45) (start - 1) (decimal z)
-  decimal_down le bytes start h =
+  decimal_down t {bytes} {start} h =
       let s = h.size in
       let b = h.before in
       let i = h.inside in
@@ -143,11 +146,23 @@ module _ (z : ℤ) (f : SFits w32 z) (w : ℕ) (ew : w ≡ word_of z) where
             drop_set bytes (start - 1) 45 (omega arith)
             ∙ ap (λ (k : ℕ). 45 ∷ drop k bytes) {x = suc (start - 1)} {y = start} (omega arith)
             ∙ ap (λ (ds : List ℕ). 45 ∷ ds) h.are
-            ∙ down_is le;
+            ∙ down_is t;
       }
 
-  pub size_up : (r : ℕ) → w < 2147483648 → r ≡ length (digits_within (suc w) w) → r ≡ length (decimal z)
-  size_up r lt e = e ∙ ap length (up_is lt)
+  -- the sign counts one
+  pub size_is : {r s : ℕ} → r ≡ length (digits_within (suc w) w) → s ≡ bool_byte (lt_z (to_z w32 (of_z w32 z)) (pos 0)) → r + s ≡ length (decimal z)
+  unfolding decimal
+  size_is {r} {s} er es = go z (ew ∙ ap nat_abs seen) (rw seen at es)
+    where
+      go : (y : ℤ) → w ≡ nat_abs y → s ≡ bool_byte (lt_z y (pos 0)) → r + s ≡ length (decimal y)
+      go (pos n) e t = let z : s ≡ 0 = t ∙ ap bool_byte (le-ltb n 0 (omega arith)) in rw (← e) (omega arith)
+      go (negsuc n) e t = rw (← e) (omega (arith, t))
 
-  pub size_down : (r : ℕ) → 2147483648 ≤ w → r ≡ length (digits_within (suc (4294967295 - w + 1)) (4294967295 - w + 1)) → r + 1 ≡ length (decimal z)
-  size_down r le e = let d = ap length (down_is le) in omega arith
+-- ---- digit_count: one more than the power of ten that is not above the number, or than 0
+
+pub count_is : (n k : ℕ) {m : ℕ} → m ≡ max n 1 → 10 ^ k ≤ m → m < 10 * 10 ^ k → k + 1 ≡ length (digits_within (suc n) n)
+count_is n zero e low high = let d = digits_count 0 n (λ z. absurd (z refl)) (omega arith) in omega arith
+count_is n (suc k) e low high =
+    let one : 1 ≤ 10 ^ k = one-le-pow k 10 (omega arith) in
+    let d = digits_count (suc k) n (λ z. omega arith) (omega arith) in
+    omega arith

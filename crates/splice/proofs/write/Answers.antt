@@ -1,14 +1,8 @@
-use Rattle.splice.proofs.Laws.{write_past, front_size, front_fits, write_front}
+use Rattle.splice.proofs.Laws.{write_copied, write_past}
 use Rattle.splice.proofs.write.Goals as goal
 
-pub returns-then-size-at : goal.returns-then-size-at
-returns-then-size-at c = search write_past
+pub returns-then-at-m : goal.returns-then-at-m
+returns-then-at-m c = search write_copied
 
-pub slice_bounds-copy-end : goal.slice_bounds-copy-end
-slice_bounds-copy-end c = search front_size
-
-pub copy-requires-2 : goal.copy-requires-2
-copy-requires-2 c = search front_fits
-
-pub returns : goal.returns
-returns c = search write_front
+pub returns-else-at-m : goal.returns-else-at-m
+returns-else-at-m c = search write_past
