@@ -1,17 +1,17 @@
 use Rattle.mark.proofs.MarkLaws.{queue_start, queue_done, queue_below, queue_scaled, queue_one_more, queue_falls, queue_scans, queue_again}
-use Rattle.mark.proofs.mark_queue.Goals as goal
+use Rattle.mark.proofs.Work.mark_queue.Goals as goal
 
 pub loop-k-init : goal.loop-k-init
 loop-k-init c = search queue_start
 
-pub offset_bounds-order-k : goal.offset_bounds-order-k
-offset_bounds-order-k c = search queue_scaled
+pub offset_bounds-self-k : goal.offset_bounds-self-k
+offset_bounds-self-k c = search queue_scaled
 
-pub bounds-order-k : goal.bounds-order-k
-bounds-order-k c = search queue_below
+pub bounds-self-k : goal.bounds-self-k
+bounds-self-k c = search queue_below
 
-pub visit_slots-tail-requires : goal.visit_slots-tail-requires
-visit_slots-tail-requires c = search queue_scans
+pub visit_slots-requires : goal.visit_slots-requires
+visit_slots-requires c = search queue_scans
 
 pub overflow_add-k : goal.overflow_add-k
 overflow_add-k c = search queue_one_more
