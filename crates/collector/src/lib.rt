@@ -13,25 +13,21 @@ use framed::Totals;
 fn sweep_frames(h: &mut [u32], marks: &[u8; 512])
     ensures { h.new ≡ sweep_frames marks.now h.old }
 {
-    let mut f = 0u32;
-    while f < 256 {
+    for f in 0..256u32 {
         if marks[words::wide(f)] == 0 {
             heap::free_frame(h, f);
         }
-        f += 1;
     }
 }
 
-// The same of made texts.
+// The same of made texts. It stays beside the one of frames: a contract on a closure that frees one of either would be longer than this loop.
 fn sweep_texts(h: &mut [u32], marks: &[u8; 512])
     ensures { h.new ≡ sweep_texts marks.now h.old }
 {
-    let mut k = 0u32;
-    while k < 256 {
+    for k in 0..256u32 {
         if marks[256 + words::wide(k)] == 0 {
             heap::free_text(h, k);
         }
-        k += 1;
     }
 }
 
@@ -40,15 +36,7 @@ fn count_marks(marks: &[u8; 512], from: usize) -> u32
     requires { from ≤ 256 }
     ensures { result ≡ length (passing (marked_from marks.now from) 256) }
 {
-    let mut n = 0u32;
-    let mut k = 0usize;
-    while k < 256 {
-        if marks[from + k] != 0 {
-            n += 1;
-        }
-        k += 1;
-    }
-    n
+    heap::count(|k| marks[from + k as usize] != 0)
 }
 
 // Afterwards exactly what self and program reach is in use; the totals are how much that is, which is how much is marked.
@@ -57,14 +45,11 @@ pub fn collect_heap(h: &mut [u32]) -> Totals
     ensures exact { collect_heap h.old ≡ collection result h.new }
     ensures means { Collected h.old h.new result }
 {
-    let mut marks = [0u8; 512];
-    mark::mark(h, &mut marks);
+    let marks = mark::mark(h);
     sweep_frames(h, &marks);
     sweep_texts(h, &marks);
-    let frames = count_marks(&marks, 0);
-    let texts = count_marks(&marks, 256);
     Totals {
-        frames: frames,
-        texts: texts,
+        frames: count_marks(&marks, 0),
+        texts: count_marks(&marks, 256),
     }
 }

@@ -1,7 +1,7 @@
 // Heap words and text bytes, field by field (docs/LAYOUT.md). Every function is total: past the end a read gives 0 and a write does nothing.
 #![tactic(auto)]
 
-ghost use Rattle.std.specs.Prelude.{◌≡◌, length};
+ghost use Rattle.std.specs.Prelude.{◌≡◌, ◌<◌, ℕ, length};
 ghost use Rattle.heap.specs.Words.{value_of, tag_of, number_of, self_held, program_held, position, end_mark};
 ghost use Rattle.heap.specs.Words.{frame_word, frame_used, slot_count_at, maker_at, slot_name_at, slot_tag_at, slot_number_at, slot_value_at};
 ghost use Rattle.heap.specs.Words.{text_word, text_used, text_length, text_byte};
@@ -49,12 +49,14 @@ pub fn number_of(v: Value) -> u32
 
 // ---- The header: self, program, position, end mark
 
+#[tactic(auto, unfolding(crate::specs::Words::self_held))]
 pub fn self_value(h: &[u32]) -> Value
     ensures { result ≡ self_held h.now }
 {
     value_of(words::word(h, 0), words::word(h, 1))
 }
 
+#[tactic(auto, unfolding(crate::specs::Words::program_held))]
 pub fn program_value(h: &[u32]) -> Value
     ensures { result ≡ program_held h.now }
 {
@@ -62,6 +64,7 @@ pub fn program_value(h: &[u32]) -> Value
 }
 
 // 0, or 1 + the next instruction
+#[tactic(auto, unfolding(crate::specs::Words::position))]
 pub fn position(h: &[u32]) -> u32
     ensures { result ≡ position h.now }
 {
@@ -69,12 +72,14 @@ pub fn position(h: &[u32]) -> u32
 }
 
 // 0, or 31 to 37
+#[tactic(auto, unfolding(crate::specs::Words::end_mark))]
 pub fn end_mark(h: &[u32]) -> u32
     ensures { result ≡ end_mark h.now }
 {
     words::word(h, 5)
 }
 
+#[tactic(auto, unfolding(crate::specs::Words::set_self))]
 pub fn set_self(h: &mut [u32], v: Value)
     ensures { h.new ≡ set_self h.old v }
 {
@@ -82,6 +87,7 @@ pub fn set_self(h: &mut [u32], v: Value)
     words::set_word(h, 1, number_of(v));
 }
 
+#[tactic(auto, unfolding(crate::specs::Words::set_program))]
 pub fn set_program(h: &mut [u32], v: Value)
     ensures { h.new ≡ set_program h.old v }
 {
@@ -89,12 +95,14 @@ pub fn set_program(h: &mut [u32], v: Value)
     words::set_word(h, 3, number_of(v));
 }
 
+#[tactic(auto, unfolding(crate::specs::Words::set_position))]
 pub fn set_position(h: &mut [u32], p: u32)
     ensures { h.new ≡ set_position h.old p }
 {
     words::set_word(h, 4, p);
 }
 
+#[tactic(auto, unfolding(crate::specs::Words::set_end_mark))]
 pub fn set_end_mark(h: &mut [u32], e: u32)
     ensures { h.new ≡ set_end_mark h.old e }
 {
@@ -104,18 +112,21 @@ pub fn set_end_mark(h: &mut [u32], e: u32)
 // ---- Frames
 
 // The word that says whether the frame is in use: 0 or 1.
+#[tactic(auto, unfolding(crate::specs::Words::frame_word))]
 pub fn frame_word(h: &[u32], f: u32) -> u32
     ensures { result ≡ frame_word h.now f }
 {
     words::word(h, 128 + 51 * words::wide(f))
 }
 
+#[tactic(auto, unfolding(crate::specs::Words::frame_used))]
 pub fn frame_used(h: &[u32], f: u32) -> bool
     ensures { result ≡ frame_used h.now f }
 {
     frame_word(h, f) == 1
 }
 
+#[tactic(auto, unfolding(crate::specs::Words::slot_count_at))]
 pub fn slot_count(h: &[u32], f: u32) -> u32
     ensures { result ≡ slot_count_at h.now f }
 {
@@ -123,36 +134,42 @@ pub fn slot_count(h: &[u32], f: u32) -> u32
 }
 
 // The number of the instruction that made it: 1 + its place, 0 where it was made at loading.
+#[tactic(auto, unfolding(crate::specs::Words::maker_at))]
 pub fn maker(h: &[u32], f: u32) -> u32
     ensures { result ≡ maker_at h.now f }
 {
     words::word(h, 130 + 51 * words::wide(f))
 }
 
+#[tactic(auto, unfolding(crate::specs::Words::slot_name_at))]
 pub fn slot_name(h: &[u32], f: u32, i: u32) -> u32
     ensures { result ≡ slot_name_at h.now f i }
 {
     words::word(h, 131 + 51 * words::wide(f) + 3 * words::wide(i))
 }
 
+#[tactic(auto, unfolding(crate::specs::Words::slot_tag_at))]
 pub fn slot_tag(h: &[u32], f: u32, i: u32) -> u32
     ensures { result ≡ slot_tag_at h.now f i }
 {
     words::word(h, 132 + 51 * words::wide(f) + 3 * words::wide(i))
 }
 
+#[tactic(auto, unfolding(crate::specs::Words::slot_number_at))]
 pub fn slot_number(h: &[u32], f: u32, i: u32) -> u32
     ensures { result ≡ slot_number_at h.now f i }
 {
     words::word(h, 133 + 51 * words::wide(f) + 3 * words::wide(i))
 }
 
+#[tactic(auto, unfolding(crate::specs::Words::slot_value_at))]
 pub fn slot_value(h: &[u32], f: u32, i: u32) -> Value
     ensures { result ≡ slot_value_at h.now f i }
 {
     value_of(slot_tag(h, f, i), slot_number(h, f, i))
 }
 
+#[tactic(auto, unfolding(crate::specs::Words::set_slot_value))]
 pub fn set_slot_value(h: &mut [u32], f: u32, i: u32, v: Value)
     ensures { h.new ≡ set_slot_value h.old f i v }
 {
@@ -178,6 +195,7 @@ pub fn add_slot(h: &mut [u32], f: u32, name: u32, v: Value)
 }
 
 // In use, with no slots, of the maker m.
+#[tactic(auto, unfolding(crate::specs::Words::take_frame))]
 pub fn take_frame(h: &mut [u32], f: u32, m: u32)
     ensures { h.new ≡ take_frame h.old f m }
 {
@@ -186,6 +204,7 @@ pub fn take_frame(h: &mut [u32], f: u32, m: u32)
     words::set_word(h, 130 + 51 * words::wide(f), m);
 }
 
+#[tactic(auto, unfolding(crate::specs::Words::free_frame))]
 pub fn free_frame(h: &mut [u32], f: u32)
     ensures { h.new ≡ free_frame h.old f }
 {
@@ -195,12 +214,14 @@ pub fn free_frame(h: &mut [u32], f: u32)
 // ---- Made texts
 
 // 0 where the text is not in use, else 1 + its length.
+#[tactic(auto, unfolding(crate::specs::Words::text_word))]
 fn text_word(h: &[u32], k: u32) -> u32
     ensures { result ≡ text_word h.now k }
 {
     words::word(h, 13184 + words::wide(k))
 }
 
+#[tactic(auto, unfolding(crate::specs::Words::text_used))]
 pub fn text_used(h: &[u32], k: u32) -> bool
     ensures { result ≡ text_used h.now k }
 {
@@ -208,12 +229,14 @@ pub fn text_used(h: &[u32], k: u32) -> bool
 }
 
 // 0 where the text is not in use.
+#[tactic(auto, unfolding(crate::specs::Words::text_length))]
 pub fn text_length(h: &[u32], k: u32) -> u32
     ensures { result ≡ text_length h.now k }
 {
     text_word(h, k).saturating_sub(1)
 }
 
+#[tactic(auto, unfolding(crate::specs::Words::text_byte))]
 pub fn text_byte(t: &[u8], k: u32, i: u32) -> u8
     ensures { result ≡ text_byte t.now k i }
 {
@@ -230,6 +253,7 @@ pub fn take_text(h: &mut [u32], k: u32, n: u32)
     words::set_word(h, 13184 + words::wide(k), n + 1);
 }
 
+#[tactic(auto, unfolding(crate::specs::Words::free_text))]
 pub fn free_text(h: &mut [u32], k: u32)
     ensures { h.new ≡ free_text h.old k }
 {
@@ -239,13 +263,13 @@ pub fn free_text(h: &mut [u32], k: u32)
 // ---- How many are in use
 
 // How many of the numbers below 256 pass the test.
-fn count<F: Fn(u32) -> bool>(used: F) -> u32
-    requires { F.IsAlwaysCallable used }
-    ensures { Counted (F.post used) result }
+pub fn count<F: Fn(u32) -> bool>(test: F) -> u32
+    requires { (i : ℕ) → i < 256 → F.pre test i }
+    ensures { Counted (F.post test) result }
 {
     let mut n = 0u32;
     for i in 0..256u32 {
-        if used(i) {
+        if test(i) {
             n += 1;
         }
     }

@@ -14,7 +14,7 @@ fn count_frame(h: &[u32], f: u32, counts: &mut [u32; 513])
     ensures { counts.new ≡ count_for (maker_at h.now f) counts.old }
 {
     let n = words::wide(heap::maker(h, f));
-    counts[n] = counts[n] + 1;
+    counts[n] += 1;
 }
 
 // Counts each marked frame.
@@ -23,12 +23,10 @@ fn count_marked(h: &[u32], marks: &[u8; 512], counts: &mut [u32; 513])
     ensures { counts.new ≡ counts_below h.now marks.now 256 }
 {
     *counts = [0u32; 513];
-    let mut f = 0u32;
-    while f < 256 {
+    for f in 0..256u32 {
         if marks[words::wide(f)] != 0 {
             count_frame(h, f, counts);
         }
-        f += 1;
     }
 }
 
@@ -39,8 +37,7 @@ pub fn makers(p: &[u32], h: &[u32], l: &[u8], t: &[u8], counts: &mut [u32; 513])
     if !wellformed::well_formed(p, h, l, t) {
         return MakersAnswer::NotWellFormed;
     }
-    let mut marks = [0u8; 512];
-    mark::mark(h, &mut marks);
+    let marks = mark::mark(h);
     count_marked(h, &marks, counts);
     MakersAnswer::Counted
 }

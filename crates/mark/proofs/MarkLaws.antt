@@ -1,16 +1,15 @@
 -- Marking: how many frames are marked, and one law for each way through the functions that mark. Assumes nothing.
 use Prim.Native.Nat.{ℕ, zero, suc, ◌+◌, ◌-◌, ◌*◌, ◌≤◌, ◌<◌}
-use mathlib.Core.Path.{◌≡◌, refl, ◌∙◌, ap, ap₂, sym}
+use mathlib.Core.Path.{◌≡◌, refl, ◌∙◌, ap, sym}
 use mathlib.Core.Logic.{◌≢◌}
-use mathlib.Core.List.{List, []}
+use mathlib.Core.List.{List}
 use mathlib.Core.Bool.{Bool, true, false}
 use native.Mathlib.Omega.{arith}
 use lib.ListN.{length, get_or, set, replicate, length-set, length-replicate}
 use lib.Seq.{get_or-set_same, get_or-set_other}
 use lib.Dec.{eqb}
-use lib.IntN.{ℤ}
 use borrow.Author.Count.{below_more}
-use borrow.Author.Tests.{eq-eqb, ne_eqb, eqb-true, lt-ltb, le-ltb}
+use borrow.Author.Tests.{eqb-true, lt-ltb, le-ltb}
 use mir.Val.{Fits}
 use mir.Syntax.{w64}
 use Rattle.framed.specs.declared.Text.{Text}
@@ -20,8 +19,9 @@ use Rattle.heap.specs.Words.{slot_count_at, slot_value_at, self_held, program_he
 use Rattle.heap.specs.Lists.{passing}
 use Rattle.heap.specs.Closed.{FrameInUse, NamesInUse, Closed}
 use Rattle.heap.proofs.Lists.{passing_room, passing_more, passing_same, passing_below, passing_none, zeros_at, left_more, left_none}
-use Rattle.mark.specs.Mark.{Work, work, Now, mark_text, visit_frame, visit_value, visit_from, visit_all, mark_queue, mark_roots, blank, mark_all}
-use Rattle.mark.specs.Asks.{marked, AtText, AtFrame, Visitable, Scannable, Starts, Scans}
+use Rattle.mark.specs.declared.Work.{Work}
+use Rattle.mark.specs.Mark.{work, mark_text, visit_frame, visit_value, visit_from, visit_all, mark_queue, mark_roots, blank, mark_all}
+use Rattle.mark.specs.Asks.{marked, AtFrame, Visitable, Scannable, Starts, Scans}
 
 -- ---- How many frames are marked
 
@@ -48,71 +48,17 @@ module _ (m : List ℕ) where
   pub count_text : (k : ℕ) → passing (marked (set m (256 + k) 1)) 256 ≡ passing (marked m) 256
   count_text k = passing_same (marked m) (marked (set m (256 + k) 1)) 256 (λ j lt. marked_other (256 + k) j (omega arith))
 
--- ---- mark_text
-
-pub text_else : (t : Text) (m : List ℕ) → ((k : ℕ) → t ≡ Text.Made k → ⊥) → m ≡ mark_text t m
-unfolding mark_text
-text_else (Text.Literal k) m e = refl
-text_else (Text.Made k) m e = absurd (e k refl)
-
-module _ (t : Text) (k i : ℕ) (et : t ≡ Text.Made k) (ei : i ≡ k) where
-  pub text_below : AtText t → 256 + i < 512
-  text_below a = let s = a.small k et in omega arith
-
-  pub text_marked : (m : List ℕ) → set m (256 + i) 1 ≡ mark_text t m
-  unfolding mark_text
-  text_marked m = rw (et, ei)
-
 -- ---- visit_frame
 
-module _ (m o : List ℕ) (t f g : ℕ) (ef : f ≡ g) where
-  pub frame_new : get_or m f 0 ≡ 0 → Now (visit_frame g (work m o t)) (set m f 1) (set o t g) (t + 1)
-  unfolding visit_frame
-  frame_new e = rw (← ef, eq-eqb _ _ e) (record { marks_are = refl; order_are = refl; tail_is = refl })
+module _ (w : Work) (f g : ℕ) (ef : f ≡ g) (a : AtFrame w g) (e : get_or w.marks f 0 ≡ 0) where
+  pub frame_room : w.tail < 256
+  frame_room = omega (arith, count_room w.marks f (rw ef a.small) e, a.counted)
 
-  pub frame_old : (get_or m f 0 ≡ 0 → ⊥) → Now (visit_frame g (work m o t)) m o t
-  unfolding visit_frame
-  frame_old e = rw (← ef, ne_eqb _ _ e) (record { marks_are = refl; order_are = refl; tail_is = refl })
+  pub frame_scaled : Fits w64 (w.tail * 4)
+  frame_scaled = omega (arith, frame_room)
 
-  module _ (a : AtFrame (work m o t) g) where
-    pub frame_small : f < 256
-    frame_small = rw ef a.small
-
-    module _ (e : get_or m f 0 ≡ 0) where
-      pub frame_room : t < 256
-      frame_room = omega (arith, count_room m f frame_small e, a.counted)
-
-      pub frame_scaled : Fits w64 (t * 4)
-      frame_scaled = omega (arith, frame_room)
-
-      pub frame_one_more : Fits w64 (t + 1)
-      frame_one_more = omega (arith, frame_room)
-
--- ---- visit
-
-module _ (v : Value) (m o : List ℕ) (t : ℕ) where
-  pub visit_int : (z : ℤ) → v ≡ Value.Int z → Now (visit_value v (work m o t)) m o t
-  unfolding visit_value
-  visit_int z e = rw e (record { marks_are = refl; order_are = refl; tail_is = refl })
-
-  pub visit_code : (k : ℕ) → v ≡ Value.Code k → Now (visit_value v (work m o t)) m o t
-  unfolding visit_value
-  visit_code k e = rw e (record { marks_are = refl; order_are = refl; tail_is = refl })
-
-  pub visit_text : (x : Text) (m' : List ℕ) → v ≡ Value.Text x → m' ≡ mark_text x m → Now (visit_value v (work m o t)) m' o t
-  unfolding visit_value
-  visit_text x m' e q = rw (e, q) (record { marks_are = refl; order_are = refl; tail_is = refl })
-
-  pub visit_framed : (g : ℕ) (m' o' : List ℕ) (t' : ℕ) → v ≡ Value.Frame g → Now (visit_frame g (work m o t)) m' o' t' → Now (visit_value v (work m o t)) m' o' t'
-  unfolding visit_value
-  visit_framed g m' o' t' e n = rw e n
-
-  module _ (a : Visitable (work m o t) v) where
-    pub visit_at_text : (x : Text) → v ≡ Value.Text x → AtText x
-    visit_at_text x e = record { small = λ k q. a.made k (e ∙ ap Value.Text q) }
-
-    pub visit_at_frame : (g : ℕ) → v ≡ Value.Frame g → AtFrame (work m o t) g
-    visit_at_frame g e = record { marks_long = a.marks_long; counted = a.counted; small = a.frame g e }
+  pub frame_one_more : Fits w64 (w.tail + 1)
+  frame_one_more = omega (arith, frame_room)
 
 -- ---- What a visit keeps
 
@@ -136,7 +82,7 @@ module _ (h : List ℕ) (w : Work) (s : Scannable h w) where
                 (rw (get_or-set_same w.order w.tail f 0 lt) u);
           }
 
-  text_keeps : (x : Text) → Scannable h (work (mark_text x w.marks) w.order w.tail)
+  text_keeps : (x : Text) → Scannable h (mark_text x w)
   unfolding mark_text
   text_keeps (Text.Literal k) = s
   text_keeps (Text.Made k) = record {
@@ -153,48 +99,42 @@ module _ (h : List ℕ) (w : Work) (s : Scannable h w) where
   visit_keeps (Value.Code n) u = s
   visit_keeps (Value.Frame f) u = frame_keeps f (u.frame f refl)
 
-pub now_work : (w : Work) (m o : List ℕ) (t : ℕ) → Now w m o t → work m o t ≡ w
-now_work w m o t n = λ i. record { marks = n.marks_are i; order = n.order_are i; tail = n.tail_is i }
-
-now_of : (w : Work) (m o : List ℕ) (t : ℕ) → work m o t ≡ w → Now w m o t
-now_of w m o t e = record { marks_are = ap (λ (x : Work). x.marks) e; order_are = ap (λ (x : Work). x.order) e; tail_is = ap (λ (x : Work). x.tail) e }
-
-visitable : (h m o : List ℕ) (t : ℕ) (v : Value) → Scannable h (work m o t) → NamesInUse h v → Visitable (work m o t) v
-visitable h m o t v s u =
+visitable : (h : List ℕ) (w : Work) (v : Value) → Scannable h w → NamesInUse h v → Visitable w v
+visitable h w v s u =
     record { marks_long = s.marks_long; counted = s.counted; frame = λ f e. (u.frame f e).small; made = λ k e. (u.made k e).small }
 
 -- ---- visit_slots
 
-pub record Scan (h : List ℕ) (g : ℕ) (w₀ : Work) (n : ℕ) (m o : List ℕ) (t i : ℕ) : Type 0 where
+pub record Scan (h : List ℕ) (g : ℕ) (w₀ : Work) (n : ℕ) (w : Work) (i : ℕ) : Type 0 where
   pub inside : i ≤ n
-  pub ok : Scannable h (work m o t)
-  pub rest : visit_from h g (n - i) i (work m o t) ≡ visit_all h g w₀
+  pub ok : Scannable h w
+  pub rest : visit_from h g (n - i) i w ≡ visit_all h g w₀
 
 module _ (h : List ℕ) (g n : ℕ) (en : n ≡ slot_count_at h g) where
-  pub scan_start : (m o : List ℕ) (t : ℕ) → Scans h g (work m o t) → Scan h g (work m o t) n m o t 0
+  pub scan_start : (w : Work) → Scans h g w → Scan h g w n w 0
   unfolding visit_all
-  scan_start m o t s = record { inside = omega arith; ok = s.ok; rest = ap (λ (k : ℕ). visit_from h g k 0 (work m o t)) (omega arith) }
+  scan_start w s = record { inside = omega arith; ok = s.ok; rest = ap (λ (k : ℕ). visit_from h g k 0 w) (omega arith) }
 
-  module _ (m o : List ℕ) (w₀ : Work) (t i : ℕ) (s : Scan h g w₀ n m o t i) where
-    pub scan_done : n ≤ i → Now (visit_all h g w₀) m o t
+  module _ (w w₀ : Work) (i : ℕ) (s : Scan h g w₀ n w i) where
+    pub scan_done : n ≤ i → w ≡ visit_all h g w₀
     unfolding visit_from
-    scan_done le = now_of _ m o t (rw (left_none n i le) at s.rest)
+    scan_done le = rw (left_none n i le) at s.rest
 
     module _ (w₁ : Work) (a : Scans h g w₁) (lt : i < n) (v : Value) (ev : v ≡ slot_value_at h g i) where
       scan_names : NamesInUse h (slot_value_at h g i)
       scan_names = a.closed.slot g i a.in_use (omega arith)
 
-      pub scan_visitable : Visitable (work m o t) v
-      scan_visitable = visitable h m o t v s.ok (rw ev scan_names)
+      pub scan_visitable : Visitable w v
+      scan_visitable = visitable h w v s.ok (rw ev scan_names)
 
-      pub scan_again : (m' o' : List ℕ) (t' : ℕ) → Now (visit_value v (work m o t)) m' o' t' → Scan h g w₀ n m' o' t' (i + 1)
+      pub scan_again : (w' : Work) → w' ≡ visit_value v w → Scan h g w₀ n w' (i + 1)
       unfolding visit_from
-      scan_again m' o' t' nw =
-          let e : work m' o' t' ≡ visit_value (slot_value_at h g i) (work m o t) = rw ev at (now_work _ m' o' t' nw) in
+      scan_again w' e =
+          let q : w' ≡ visit_value (slot_value_at h g i) w = rw ev at e in
           record {
             inside = omega arith;
-            ok = rw e (visit_keeps h (work m o t) s.ok (slot_value_at h g i) scan_names);
-            rest = rw e (rw (left_more n i lt) at s.rest);
+            ok = rw q (visit_keeps h w s.ok (slot_value_at h g i) scan_names);
+            rest = rw q (rw (left_more n i lt) at s.rest);
           }
 
 -- what visiting a whole frame keeps
@@ -211,26 +151,17 @@ all_keeps h g w closed u s = from_keeps h g (slot_count_at h g) 0 w closed u (om
 
 -- ---- mark_roots
 
-module _ (h m₀ o₀ : List ℕ) (a : Starts h (work m₀ o₀ 0)) (v : Value) (ev : v ≡ self_held h) where
-  pub first_visitable : Visitable (work m₀ o₀ 0) v
-  first_visitable = visitable h m₀ o₀ 0 v a.ok (rw ev a.closed.self)
+module _ (h : List ℕ) (w₀ : Work) (a : Starts h w₀) (v : Value) (ev : v ≡ self_held h) where
+  pub first_visitable : Visitable w₀ v
+  first_visitable = visitable h w₀ v a.ok (rw ev a.closed.self)
 
-  module _ (m o : List ℕ) (t : ℕ) (nw : Now (visit_value v (work m₀ o₀ 0)) m o t) where
-    first_work : work m o t ≡ visit_value (self_held h) (work m₀ o₀ 0)
-    first_work = rw ev at (now_work _ m o t nw)
+  module _ (w : Work) (e : w ≡ visit_value v w₀) (v' : Value) (ev' : v' ≡ program_held h) where
+    pub second_visitable : Visitable w v'
+    second_visitable = visitable h w v' (rw (e, ev) (visit_keeps h w₀ a.ok (self_held h) a.closed.self)) (rw ev' a.closed.program)
 
-    first_ok : Scannable h (work m o t)
-    first_ok = rw first_work (visit_keeps h (work m₀ o₀ 0) a.ok (self_held h) a.closed.self)
-
-    module _ (v' : Value) (ev' : v' ≡ program_held h) where
-      pub second_visitable : Visitable (work m o t) v'
-      second_visitable = visitable h m o t v' first_ok (rw ev' a.closed.program)
-
-      pub roots_done : (m' o' : List ℕ) (t' : ℕ) → Now (visit_value v' (work m o t)) m' o' t' → Now (mark_roots h (work m₀ o₀ 0)) m' o' t'
-      unfolding mark_roots
-      roots_done m' o' t' nw' =
-          let e : visit_value v' (work m o t) ≡ visit_value (program_held h) (visit_value (self_held h) (work m₀ o₀ 0)) = ap₂ visit_value ev' first_work in
-          rw e at nw'
+    pub roots_done : (w' : Work) → w' ≡ visit_value v' w → w' ≡ mark_roots h w₀
+    unfolding mark_roots
+    roots_done w' e' = rw (e', e, ev, ev')
 
 pub roots_keep : (h : List ℕ) (w : Work) → Closed h → Scannable h w → Scannable h (mark_roots h w)
 unfolding mark_roots
@@ -239,13 +170,13 @@ roots_keep h w closed s =
 
 -- ---- mark_queue
 
-pub record Queue (h : List ℕ) (w₀ : Work) (m o : List ℕ) (t k : ℕ) : Type 0 where
+pub record Queue (h : List ℕ) (w₀ w : Work) (k : ℕ) : Type 0 where
   pub inside : k ≤ 256
-  pub ok : Scannable h (work m o t)
-  pub rest : mark_queue h (256 - k) k (work m o t) ≡ mark_queue h 256 0 w₀
+  pub ok : Scannable h w
+  pub rest : mark_queue h (256 - k) k w ≡ mark_queue h 256 0 w₀
 
-pub queue_start : (h m o : List ℕ) (t : ℕ) → Starts h (work m o t) → Queue h (work m o t) m o t 0
-queue_start h m o t s = record { inside = omega arith; ok = s.ok; rest = refl }
+pub queue_start : (h : List ℕ) (w : Work) → Starts h w → Queue h w w 0
+queue_start h w s = record { inside = omega arith; ok = s.ok; rest = refl }
 
 queue_stop : (h : List ℕ) (n k : ℕ) (w : Work) → w.tail ≤ k → mark_queue h n k w ≡ w
 unfolding mark_queue
@@ -255,13 +186,13 @@ queue_stop h (suc n) k w le = rw (le-ltb k w.tail le)
 pub tail_small : (h : List ℕ) (w : Work) → Scannable h w → w.tail ≤ 256
 tail_small h w s = omega (arith, passing_below (marked w.marks) 256, s.counted)
 
-module _ (h : List ℕ) (w₀ : Work) (m o : List ℕ) (t k : ℕ) (q : Queue h w₀ m o t k) where
-  pub queue_done : t ≤ k → Now (mark_queue h 256 0 w₀) m o t
-  queue_done le = now_of _ m o t (sym (queue_stop h (256 - k) k (work m o t) le) ∙ q.rest)
+module _ (h : List ℕ) (w₀ w : Work) (k : ℕ) (q : Queue h w₀ w k) where
+  pub queue_done : w.tail ≤ k → w ≡ mark_queue h 256 0 w₀
+  queue_done le = sym (queue_stop h (256 - k) k w le) ∙ q.rest
 
-  module _ (lt : k < t) where
+  module _ (lt : k < w.tail) where
     pub queue_below : k < 256
-    queue_below = omega (arith, tail_small h (work m o t) q.ok)
+    queue_below = omega (arith, tail_small h w q.ok)
 
     pub queue_scaled : Fits w64 (k * 4)
     queue_scaled = omega (arith, queue_below)
@@ -272,19 +203,19 @@ module _ (h : List ℕ) (w₀ : Work) (m o : List ℕ) (t k : ℕ) (q : Queue h 
     pub queue_falls : 256 - (k + 1) < 256 - k
     queue_falls = omega (arith, queue_below)
 
-    module _ (w₁ : Work) (a : Starts h w₁) (g : ℕ) (eg : g ≡ get_or o k 0) where
-      pub queue_scans : Scans h g (work m o t)
+    module _ (w₁ : Work) (a : Starts h w₁) (g : ℕ) (eg : g ≡ get_or w.order k 0) where
+      pub queue_scans : Scans h g w
       queue_scans = record { closed = a.closed; in_use = rw eg (q.ok.queued k lt); ok = q.ok }
 
-      pub queue_again : (m' o' : List ℕ) (t' : ℕ) → Now (visit_all h g (work m o t)) m' o' t' → Queue h w₀ m' o' t' (k + 1)
+      pub queue_again : (w' : Work) → w' ≡ visit_all h g w → Queue h w₀ w' (k + 1)
       unfolding mark_queue
-      queue_again m' o' t' nw =
-          let e : work m' o' t' ≡ visit_all h (get_or o k 0) (work m o t) = rw eg at (now_work _ m' o' t' nw) in
+      queue_again w' e' =
+          let e : w' ≡ visit_all h (get_or w.order k 0) w = rw eg at e' in
           let b = queue_below in
           record {
             inside = omega arith;
-            ok = rw e (all_keeps h (get_or o k 0) (work m o t) a.closed (q.ok.queued k lt) q.ok);
-            rest = rw e (rw (left_more 256 k b, lt-ltb k t lt) at q.rest);
+            ok = rw e (all_keeps h (get_or w.order k 0) w a.closed (q.ok.queued k lt) q.ok);
+            rest = rw e (rw (left_more 256 k b, lt-ltb k w.tail lt) at q.rest);
           }
 
 -- ---- mark
@@ -300,10 +231,10 @@ blank_ok h closed = record {
   };
 }
 
-module _ (h : List ℕ) (m o : List ℕ) (t : ℕ) (nw : Now (mark_roots h (work (replicate 512 0) (replicate 256 0) 0)) m o t) where
-  pub started_ok : Closed h → Starts h (work m o t)
-  started_ok closed = record { closed = closed; ok = rw (now_work _ m o t nw) (roots_keep h _ closed (blank_ok h closed).ok) }
+module _ (h : List ℕ) (w : Work) (e : w ≡ mark_roots h (work (replicate 512 0) (replicate 256 0) 0)) where
+  pub started_ok : Closed h → Starts h w
+  started_ok closed = record { closed = closed; ok = rw e (roots_keep h _ closed (blank_ok h closed).ok) }
 
-  pub mark_done : (m' o' : List ℕ) (t' : ℕ) → Now (mark_queue h 256 0 (work m o t)) m' o' t' → m' ≡ mark_all h
+  pub mark_done : (w' : Work) → w' ≡ mark_queue h 256 0 w → w'.marks ≡ mark_all h
   unfolding mark_all blank
-  mark_done m' o' t' nw' = nw'.marks_are ∙ ap (λ (w : Work). (mark_queue h 256 0 w).marks) (now_work _ m o t nw)
+  mark_done w' e' = rw (e', e)

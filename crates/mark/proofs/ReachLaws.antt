@@ -19,7 +19,8 @@ use Rattle.heap.specs.Words.{slot_count_at, slot_value_at, self_held, program_he
 use Rattle.heap.specs.Closed.{FrameInUse, NamesInUse, Closed}
 use Rattle.heap.proofs.Lists.{zeros_at}
 use Rattle.heap.proofs.Held.{InSlot, in_slot_held, in_slot_from}
-use Rattle.mark.specs.Mark.{Work, work, Now, mark_text, visit_frame, visit_value, visit_from, visit_all, mark_queue, mark_roots, blank, mark_all}
+use Rattle.mark.specs.declared.Work.{Work}
+use Rattle.mark.specs.Mark.{work, mark_text, visit_frame, visit_value, visit_from, visit_all, mark_queue, mark_roots, blank, mark_all}
 use Rattle.mark.specs.Asks.{Scannable}
 use Rattle.mark.specs.Reached.{Reached, Marked, Exactly}
 use Rattle.mark.proofs.MarkLaws.{count_room, visit_keeps, tail_small, blank_ok, mark_done}
@@ -340,9 +341,9 @@ mark_exact h closed =
     }
 
 -- as the code's contract says it
-pub mark_means : (h m o : List ℕ) (t : ℕ) → Now (mark_roots h (work (replicate 512 0) (replicate 256 0) 0)) m o t → Closed h
-    → (m' o' : List ℕ) (t' : ℕ) → Now (mark_queue h 256 0 (work m o t)) m' o' t' → Exactly h m'
-mark_means h m o t nw closed m' o' t' nw' = rw (mark_done h m o t nw m' o' t' nw') (mark_exact h closed)
+pub mark_means : (h : List ℕ) (w : Work) → w ≡ mark_roots h (work (replicate 512 0) (replicate 256 0) 0) → Closed h
+    → (w' : Work) → w' ≡ mark_queue h 256 0 w → Exactly h w'.marks
+mark_means h w e closed w' e' = rw (mark_done h w e w' e') (mark_exact h closed)
 
 -- what is reachable is in use
 pub reached_in_use : (h : List ℕ) → Closed h → {v : Value} → Reached h v → NamesInUse h v

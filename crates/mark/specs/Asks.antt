@@ -4,7 +4,7 @@ use Rattle.framed.specs.declared.Text.{Text}
 use Rattle.framed.specs.declared.Value.{Value}
 use Rattle.heap.specs.Lists.{passing}
 use Rattle.heap.specs.Closed.{Closed, FrameInUse}
-use Rattle.mark.specs.Mark.{Work}
+use Rattle.mark.specs.declared.Work.{Work}
 
 -- the mark is set
 unfoldable pub marked : List ℕ → ℕ → Bool

@@ -1,29 +1,19 @@
 -- Document 01, Collect: marking what Σ and Π reach, by a queue. A mark for each frame and made text, the frames in the order in which they were marked, and how many they are.
 -- What the marks mean is in Reached. Assumes nothing.
-use Rattle.std.specs.Prelude.{ℕ, zero, suc, ◌+◌, ◌≡◌, List, get_or, set, replicate, eqb, ltb}
+use Rattle.std.specs.Prelude.{ℕ, zero, suc, ◌+◌, List, get_or, set, replicate, eqb, ltb}
 use Rattle.words.specs.Words.{pick}
 use Rattle.framed.specs.declared.Text.{Text}
 use Rattle.framed.specs.declared.Value.{Value}
+use Rattle.mark.specs.declared.Work.{Work}
 use Rattle.heap.specs.Words.{slot_count_at, slot_value_at, self_held, program_held}
-
-pub record Work : Type 0 where
-  pub marks : List ℕ
-  pub order : List ℕ
-  pub tail : ℕ
 
 abbrev pub work : List ℕ → List ℕ → ℕ → Work
 work m o t = record { marks = m; order = o; tail = t }
 
--- the marks, the order and the tail are those of w
-pub record Now (w : Work) (m o : List ℕ) (t : ℕ) : Type 0 where
-  pub marks_are : m ≡ w.marks
-  pub order_are : o ≡ w.order
-  pub tail_is : t ≡ w.tail
-
 -- the mark of made text k is number 256 + k, that of frame f number f
-unfoldable pub mark_text : Text → List ℕ → List ℕ
-mark_text (Text.Literal k) m = m
-mark_text (Text.Made k) m = set m (256 + k) 1
+unfoldable pub mark_text : Text → Work → Work
+mark_text (Text.Literal k) w = w
+mark_text (Text.Made k) w = work (set w.marks (256 + k) 1) w.order w.tail
 
 unfoldable pub visit_frame : ℕ → Work → Work
 visit_frame f w =
@@ -31,7 +21,7 @@ visit_frame f w =
 
 unfoldable pub visit_value : Value → Work → Work
 visit_value (Value.Int n) w = w
-visit_value (Value.Text t) w = work (mark_text t w.marks) w.order w.tail
+visit_value (Value.Text t) w = mark_text t w
 visit_value (Value.Code n) w = w
 visit_value (Value.Frame f) w = visit_frame f w
 

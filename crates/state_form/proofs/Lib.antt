@@ -1,4 +1,3 @@
-pub mod Laws
 pub mod Decide
 pub mod Facts
 pub mod Kept

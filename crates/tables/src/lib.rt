@@ -9,7 +9,7 @@ ghost use Rattle.tables.specs.Fields.{program_slots, start, name_length, literal
 ghost use Rattle.tables.specs.Fields.{instruction_b, instruction_c, instruction_link, expression_kind, expression_a, expression_b, slot_name, slot_link};
 ghost use Rattle.tables.specs.Fields.{name_byte, literal_byte, link, slot_after, follow_slot, instruction_after};
 
-use words::{byte, wide, word};
+use words::{wide, word};
 
 // F, the frame limit
 pub fn frame_limit(p: &[u32]) -> u32
@@ -182,7 +182,7 @@ pub fn name_byte(p: &[u32], k: u32, i: u32) -> u32
 pub fn literal_byte(l: &[u8], k: u32, i: u32) -> u8
     ensures { result ≡ literal_byte l.now k i }
 {
-    byte(l, 64 * wide(k) + wide(i))
+    word(l, 64 * wide(k) + wide(i))
 }
 
 // the place that the link d of entry x reaches in a table of n entries

@@ -7,31 +7,23 @@ ghost use Rattle.wellformed.specs.WellFormed.{limits, well_formed};
 use frame_form::Limits;
 
 // What a state keeps within, from the program words.
+#[tactic(auto, unfolding(crate::specs::WellFormed::limits))]
 fn limits(p: &[u32]) -> Limits
     ensures { result ≡ limits p.now }
 {
-    let frames = tables::frame_limit(p);
-    let texts = tables::text_limit(p);
-    let names = tables::names(p);
-    let literals = tables::literals(p);
-    let codes = tables::codes(p);
-    let instructions = tables::instructions(p);
     Limits {
-        frames: frames,
-        texts: texts,
-        names: names,
-        literals: literals,
-        codes: codes,
-        instructions: instructions,
+        frames: tables::frame_limit(p),
+        texts: tables::text_limit(p),
+        names: tables::names(p),
+        literals: tables::literals(p),
+        codes: tables::codes(p),
+        instructions: tables::instructions(p),
     }
 }
 
+#[tactic(auto, unfolding(crate::specs::WellFormed::well_formed))]
 pub fn well_formed(p: &[u32], h: &[u32], l: &[u8], t: &[u8]) -> bool
     ensures { result ≡ well_formed p.now h.now l.now t.now }
 {
-    if !program_form::program_well_formed(p, l) {
-        return false;
-    }
-    let bounds = limits(p);
-    state_form::state_well_formed(h, t, bounds)
+    program_form::program_well_formed(p, l) && state_form::state_well_formed(h, t, limits(p))
 }

@@ -23,7 +23,8 @@ use Rattle.heap.proofs.Laws.{Local, local_trans, local_set, local_same, frame_us
 use Rattle.heap.proofs.Laws.{set_self_local, set_self_self, set_program_local, set_program_program, self_fits, program_fits}
 use Rattle.heap.proofs.Held.{text_same}
 use Rattle.allocation.specs.Allocation.{lowest_from, next_frame, next_text, view_held}
-use Rattle.mark.specs.Mark.{Work, visit_value, visit_from, visit_all, mark_queue, mark_roots, blank, mark_all}
+use Rattle.mark.specs.declared.Work.{Work}
+use Rattle.mark.specs.Mark.{visit_value, visit_from, visit_all, mark_queue, mark_roots, blank, mark_all}
 use Rattle.collector.specs.Collect.{frame_unmarked, text_unmarked, sweep_from, sweep_frames, sweep_texts, swept, collect_heap}
 use Rattle.paths.specs.declared.SlotFound.{SlotFound}
 use Rattle.paths.specs.Paths.{slot_from}

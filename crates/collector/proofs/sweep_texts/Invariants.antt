@@ -1,4 +1,3 @@
-use Prim.Native.Nat.{◌-◌}
 use Rattle.heap.specs.Words.{free_text}
 use Rattle.collector.specs.Collect.{text_unmarked}
 use Rattle.collector.proofs.Sweep.{Sweep}
@@ -6,6 +5,3 @@ use Rattle.collector.proofs.sweep_texts.Given as goal
 
 abbrev pub invariant-loop-k : goal.invariant-loop-k
 invariant-loop-k l = Sweep free_text (text_unmarked l.marks) l.initial.h l.h l.k
-
-abbrev pub decreases-loop-k : goal.decreases-loop-k
-decreases-loop-k l = 256 - l.k

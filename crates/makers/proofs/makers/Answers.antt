@@ -4,8 +4,8 @@ use Rattle.makers.proofs.makers.Goals as goal
 pub returns-then-not-well_formed : goal.returns-then-not-well_formed
 returns-then-not-well_formed c = record { exact = search refused_exact; meaning = search (makers_means, refused_exact) }
 
-pub mark-requires : goal.mark-requires
-mark-requires c = search closed_here
+pub mark-marks-requires : goal.mark-marks-requires
+mark-marks-requires c = search closed_here
 
 pub count_marked-requires : goal.count_marked-requires
 count_marked-requires c = search makers_fit

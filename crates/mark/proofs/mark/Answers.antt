@@ -2,8 +2,8 @@ use Rattle.mark.proofs.MarkLaws.{blank_ok, started_ok, mark_done}
 use Rattle.mark.proofs.ReachLaws.{mark_means}
 use Rattle.mark.proofs.mark.Goals as goal
 
-pub mark_roots-start-requires : goal.mark_roots-start-requires
-mark_roots-start-requires c = search blank_ok
+pub mark_roots-requires : goal.mark_roots-requires
+mark_roots-requires c = search blank_ok
 
 pub mark_queue-requires : goal.mark_queue-requires
 mark_queue-requires c = search started_ok
