@@ -1,5 +1,5 @@
 -- Counting up to 257. Assumes nothing.
-use Prim.Native.Nat.{ℕ, ◌+◌, ◌*◌, ◌/◌, ◌%◌, ◌≤◌, ◌<◌}
+use Prim.Native.Nat.{ℕ, min, ◌+◌, ◌-◌, ◌^◌, ◌*◌, ◌/◌, ◌%◌, ◌≤◌, ◌<◌}
 use mathlib.Core.Path.{◌≡◌, refl, ◌∙◌, sym}
 use native.Mathlib.Omega.{arith}
 use native.Mathlib.Decide.{dec_lt}
@@ -41,12 +41,12 @@ cap_compares limit in_use n le = go (dec_lt n 257)
 
 -- ---- capped
 
-module _ (a b s t : ℕ) (es : s ≡ a) (et : t ≡ b) where
-  pub capped_large : 257 ≤ s + t → 257 ≡ cap (a + b)
-  capped_large le = sym (cap_large (a + b) (omega arith))
-
-  pub capped_small : s + t < 257 → a + b ≡ cap (a + b)
-  capped_small lt = sym (cap_small (a + b) (omega arith))
+pub capped_is : (a b s r : ℕ) → s ≡ min (a + b) (2 ^ 32 - 1) → r ≡ min s 257 → r ≡ cap (a + b)
+capped_is a b s r es er = go (dec_lt (a + b) 257)
+  where
+    go : Dec (a + b < 257) → r ≡ cap (a + b)
+    go (yes lt) = let c = cap_small (a + b) lt in omega arith
+    go (no ge) = let c = cap_large (a + b) (omega arith) in omega arith
 
 -- ---- f and t in one number
 

@@ -1,14 +1,14 @@
 -- One law for each way through the functions that count, for what each call asks and for each fall of the measure. Assumes nothing.
 use Prim.Native.Nat.{ℕ, ◌+◌, ◌-◌, ◌*◌, ◌≤◌, ◌<◌}
 use mathlib.Core.Path.{◌≡◌, refl, ◌∙◌, ap, sym}
-use mathlib.Core.List.{List, []}
+use mathlib.Core.List.{List}
 use mathlib.Core.Bool.{Bool, true, false}
 use native.Mathlib.Omega.{arith}
 use lib.Dec.{eqb}
 use borrow.Author.Tests.{ne_eqb}
 use Rattle.words.specs.Words.{pick}
 use Rattle.framed.specs.Tokens.{Operator}
-use Rattle.framed.specs.Tree.{Base, Expression, Slots}
+use Rattle.framed.specs.Tree.{Expression, Slots}
 use Rattle.framed.specs.Paths.{Path}
 use Rattle.framed.specs.Machine.{frame_literals, frame_literals_in, is_join, join_signs, join_signs_in, right_side}
 use Rattle.tables.specs.declared.ExpressionEntry.{ExpressionEntry}

@@ -14,10 +14,7 @@ use tables::{ExpressionEntry, InstructionEntry};
 fn capped(a: u32, b: u32) -> u32
     ensures { result ≡ cap (a + b) }
 {
-    if 257 <= words::wide(a) + words::wide(b) {
-        return 257;
-    }
-    a + b
+    a.saturating_add(b).min(257)
 }
 
 // f of the one number that both are
@@ -92,8 +89,7 @@ fn right_side(p: &[u32], i: u32) -> u32
     requires { AtInstruction p.now i }
     ensures { RightSide p.now i result }
 {
-    let e = tables::instruction_at(p, i);
-    match e {
+    match tables::instruction_at(p, i) {
         InstructionEntry::AssignSelf(_, _, x) => x,
         InstructionEntry::AssignProgram(_, _, x) => x,
         InstructionEntry::Show(x) => x,

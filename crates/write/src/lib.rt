@@ -15,7 +15,7 @@ fn write_through(p: &[u32], l: &[u8], own: &mut [u8], out: &mut [u8]) -> WriteAn
     ensures { text_written (text (program_held p.now l.now)) out.old ≡ writing result out.new }
 {
     let limit = out.len();
-    let size = write_words::least(limit, own.len());
+    let size = limit.min(own.len());
     let n = write_program::program_text(p, l, &mut own[..size], limit);
     if limit < n {
         return WriteAnswer::ShortBuffer;

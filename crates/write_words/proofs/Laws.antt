@@ -1,7 +1,7 @@
 -- Appending one part after the other, in a row and in a loop, and nothing once the text is past its limit. Assumes nothing.
 use mathlib.Core.Path.{◌≡◌, refl, ◌∙◌, ap, sym}
 use mathlib.Core.List.{List, [], ◌++◌}
-use Prim.Native.Nat.{ℕ, ◌+◌, ◌-◌, ◌≤◌, ◌<◌}
+use Prim.Native.Nat.{ℕ, min, ◌+◌, ◌-◌, ◌^◌, ◌≤◌, ◌<◌}
 use native.Mathlib.Omega.{arith}
 use native.Mathlib.Decide.{dec_le}
 use lib.ListN.{length, length-append}
@@ -73,16 +73,12 @@ appended_past m limit at bs can lt =
       next = e ∙ sym (capped_past limit (at + length bs) (omega arith));
     }
 
--- the three ways through `moved`
-module _ (limit at n : ℕ) where
-  pub moved_past : at ≤ limit + 1 → limit < at → at ≡ capped limit (at + n)
-  moved_past le lt = let c = capped_past limit (at + n) (omega arith) in omega arith
-
-  pub moved_long : at ≤ limit → limit - at < n → limit + 1 ≡ capped limit (at + n)
-  moved_long le lt = sym (capped_past limit (at + n) (omega arith))
-
-  pub moved_fits : at ≤ limit → n ≤ limit - at → at + n ≡ capped limit (at + n)
-  moved_fits le fits = sym (capped_fits limit (at + n) (omega arith))
+pub moved_is : (limit at n s r : ℕ) → limit < 2 ^ 63 → s ≡ min (at + n) (2 ^ 64 - 1) → r ≡ min s (limit + 1) → r ≡ capped limit (at + n)
+moved_is limit at n s r small es er = go (dec_le (at + n) limit)
+  where
+    go : Dec (at + n ≤ limit) → r ≡ capped limit (at + n)
+    go (yes le) = let c = capped_fits limit (at + n) le in omega arith
+    go (no lt) = let c = capped_past limit (at + n) (omega arith) in omega arith
 
 -- ---- A loop that appends: what it appended so far
 

@@ -155,9 +155,10 @@ module _ {p hs : List ℕ} {j n i : ℕ} (c : Comparing p hs j n i) where
   unfolding common_prefix
   comparing_past ek le = sym (omega (arith, rw (drop_of_length-le hs {i = i} (omega arith)) at c.rest))
 
-  pub comparing_done : n ≤ i → i ≡ common_prefix hs (path_list p n j)
+  pub comparing_done : n ≤ i → n ≡ common_prefix hs (path_list p n j)
   unfolding path_list
   comparing_done le =
+      let b = c.inside in
       let e : n - i ≡ 0 = omega arith in
       omega (arith, c.rest, ap (λ (k : ℕ). common_prefix (drop i hs) (path_list p k (j + i))) e ∙ common_none (drop i hs))
 

@@ -17,14 +17,7 @@ fn moved(limit: usize, at: usize, n: usize) -> usize
     requires { (at ≤ limit + 1) × (limit < 2 ^ 63) }
     ensures { result ≡ capped limit (at + n) }
 {
-    if limit < at {
-        return at;
-    }
-    let past = limit + 1;
-    if limit - at < n {
-        return past;
-    }
-    at + n
+    at.saturating_add(n).min(limit + 1)
 }
 
 // Bytes as they are.
@@ -41,21 +34,9 @@ fn copy_words(m: &mut [u8], at: usize, w: &[u32])
     requires { FitsBytes m.old at w.now }
     ensures { m.new ≡ splice m.old at w.now }
 {
-    let mut j = 0usize;
-    while j < w.len() {
+    for j in 0..w.len() {
         m[at + j] = w[j] as u8;
-        j += 1;
     }
-}
-
-// The smaller number.
-pub fn least(a: usize, b: usize) -> usize
-    ensures { result ≡ min a b }
-{
-    if a <= b {
-        return a;
-    }
-    b
 }
 
 // The bytes of name k, as far as they fit.
@@ -68,7 +49,7 @@ fn write_name(p: &[u32], m: &mut [u8], at: usize, k: u32)
         return;
     }
     let from = 65 + 17 * wide(k);
-    let n = least(wide(tables::name_length(p, k)), size - at);
+    let n = wide(tables::name_length(p, k)).min(size - at);
     copy_words(m, at, &p[from..from + n]);
 }
 
@@ -128,11 +109,9 @@ fn append_names(p: &[u32], m: &mut [u8], limit: usize, at: usize, j: u32, n: u32
     ensures { Appended m.old limit at (names_text p.now j n) m.new result }
 {
     let mut b = at;
-    let mut i = 0u32;
-    while i < n {
+    for i in 0..n {
         let a = append(m, limit, b, b".");
         b = append_name(p, m, limit, a, tables::path_name(p, j + i));
-        i += 1;
     }
     b
 }
@@ -143,10 +122,8 @@ fn append_climbs(m: &mut [u8], limit: usize, at: usize, k: usize) -> usize
     ensures { Appended m.old limit at (climbs_text k) m.new result }
 {
     let mut b = at;
-    let mut i = 0usize;
-    while i < k {
+    for i in 0..k {
         b = append(m, limit, b, b".^");
-        i += 1;
     }
     b
 }
@@ -156,8 +133,7 @@ fn common_prefix(p: &[u32], holding: &[u32], j: u32, n: u32) -> u32
     requires { AtPath p.now j n }
     ensures { result ≡ common_prefix holding.now (path_list p.now n j) }
 {
-    let mut i = 0u32;
-    while i < n {
+    for i in 0..n {
         let k = wide(i);
         if holding.len() <= k {
             return i;
@@ -165,9 +141,8 @@ fn common_prefix(p: &[u32], holding: &[u32], j: u32, n: u32) -> u32
         if holding[k] != tables::path_name(p, j + i) {
             return i;
         }
-        i += 1;
     }
-    i
+    n
 }
 
 // A path from the frame itself, with a space before it.

@@ -1,9 +1,5 @@
 use Rattle.write_words.proofs.Paths.{Comparing}
-use Prim.Native.Nat.{◌-◌}
 use Rattle.write_words.proofs.common_prefix.Given as goal
 
 abbrev pub invariant-loop-i : goal.invariant-loop-i
 invariant-loop-i l = Comparing l.p l.holding l.j l.n l.i
-
-abbrev pub decreases-loop-i : goal.decreases-loop-i
-decreases-loop-i l = l.n - l.i
