@@ -31,7 +31,10 @@ fn check_operation<'a>(
     let Fetched::Found(w) = operands::operand(p, h, b) else {
         return 31;
     };
-    operators::operate_end(p, l, h, t, o, v, w)
+    match operators::operate_end(p, l, h, t, o, v, w) {
+        Ok(()) => 0,
+        Err(e) => answers::end_number(e),
+    }
 }
 
 // The base of expression x: the operand of `!`, or x itself.

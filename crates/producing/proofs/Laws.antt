@@ -7,6 +7,8 @@ use native.Mathlib.Omega.{arith}
 use lib.IntN.{ℤ, pos}
 use lib.ListN.{length, take}
 use borrow.Author.Tests.{le-ltb}
+use Rattle.std.specs.Prelude.{Ok, Err, Result as Checked}
+use Rattle.framed.specs.declared.End.{End}
 use Rattle.framed.specs.declared.Value.{Value}
 use Rattle.framed.specs.declared.Text.{Text}
 use Rattle.framed.specs.Values.{join_bytes, truth, bit}
@@ -123,7 +125,7 @@ module _ (p l h t : List ℕ) (v w : Value) (can : CanJoin p l h t v w) where
 
 -- ---- produce
 
-module _ (p l h t : List ℕ) (k : ℕ) (v w : Value) (can : CanProduce p l h t k) (o : Operated) (eo : operators.Operates p l h t k v w o) where
+module _ (p l h t : List ℕ) (k : ℕ) (v w : Value) (can : CanProduce p l h t k) (o : Checked Operated End) (eo : operators.Operates p l h t k v w o) where
   abbrev bytes : List ℕ
   bytes = join_bytes (literals_held p l) (texts_held h t) v w
 
@@ -133,15 +135,15 @@ module _ (p l h t : List ℕ) (k : ℕ) (v w : Value) (can : CanProduce p l h t 
   nothing : (r : Value) → produce word_store result (store_held h t) ≡ made r h t → Produces p l h t k v w r h t
   nothing r e = record { produced = e; leaves = leaves_none 0 (is_join (operator_of k)) can.writable.sized can.writable.text_size }
 
-  pub produce_integer : (z y : ℤ) → o ≡ Operated.Integer z → y ≡ z → Produces p l h t k v w (Value.Int y) h t
+  pub produce_integer : (z y : ℤ) → o ≡ Ok (Operated.Integer z) → y ≡ z → Produces p l h t k v w (Value.Int y) h t
   unfolding produce
   produce_integer z y is ey = nothing (Value.Int y) (rw (← eo.is, is, ey))
 
-  pub produce_ended : (e : ℕ) → o ≡ Operated.Ended e → Produces p l h t k v w (Value.Int (pos 0)) h t
+  pub produce_ended : (e : End) → o ≡ Err e → Produces p l h t k v w (Value.Int (pos 0)) h t
   unfolding produce
   produce_ended e is = nothing (Value.Int (pos 0)) (rw (← eo.is, is))
 
-  module _ (is : o ≡ Operated.Joined) where
+  module _ (is : o ≡ Ok Operated.Joined) where
     gave : gives (text bytes) ≡ result
     gave = rw is at eo.is
 

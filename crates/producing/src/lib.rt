@@ -73,11 +73,10 @@ fn produce(
     requires texts_full { TextsFull h.old low }
     ensures { Produces p.now l.now h.old t.old kind v w result h.new t.new }
 {
-    let o = operators::operate(p, l, h, t, kind, v, w);
-    match o {
-        Operated::Integer(n) => Value::Int(n),
-        Operated::Joined => join(p, l, h, t, v, w, low),
-        Operated::Ended(_) => Value::Int(0),
+    match operators::operate(p, l, h, t, kind, v, w) {
+        Ok(Operated::Integer(n)) => Value::Int(n),
+        Ok(Operated::Joined) => join(p, l, h, t, v, w, low),
+        Err(_) => Value::Int(0),
     }
 }
 

@@ -30,7 +30,9 @@ use Rattle.bounded.specs.Check.{slot_end}
 use Rattle.operands.specs.Operands.{operand_value, unpacked}
 use Rattle.operands.proofs.Numbers.{number_none, number_some}
 use Rattle.operands.proofs.Laws.{operand_integer, operand_literal, operand_code, operand_self, operand_program}
-use Rattle.arith.specs.declared.Arithmetic.{Arithmetic}
+use Rattle.std.specs.Prelude.{Ok, Err, Result as Checked}
+use Rattle.framed.specs.declared.End.{End}
+use Rattle.framed.specs.Answers.{end_number}
 use Rattle.arith.specs.Arith.{outcome}
 use Rattle.program_equality.specs.Agreement.{constants_held}
 use Rattle.operators.specs.Operators.{operator_of, arithmetic_operated, compared}
@@ -68,13 +70,13 @@ module _ (p h : List ℕ) (a : ℕ) (r : Fetched) (er : defined (fetched r) ≡ 
 
 -- ---- from_arithmetic
 
-pub gives_integer : (o : Arithmetic) (z y : ℤ) → o ≡ Arithmetic.Integer z → y ≡ z → Given.Value (Value.Int y) ≡ of_product (outcome o)
+pub gives_integer : (o : Checked ℤ End) (z y : ℤ) → o ≡ Ok z → y ≡ z → Given.Value (Value.Int y) ≡ of_product (outcome o)
 unfolding of_product
 gives_integer o z y is ey = rw (is, ey)
 
-pub gives_end : (o : Arithmetic) (e : ℕ) → o ≡ Arithmetic.Ended e → Given.Ended e ≡ of_product (outcome o)
+pub gives_end : (o : Checked ℤ End) (e : End) (n : ℕ) → o ≡ Err e → n ≡ end_number e → Given.Ended n ≡ of_product (outcome o)
 unfolding of_product
-gives_end o e is = rw is
+gives_end o e n is en = rw (is, en)
 
 -- ---- operation
 
@@ -98,7 +100,7 @@ module _ (p l h t : List ℕ) (k a b : ℕ) where
         unfolding operation_given operation_held defined M.◌>>=◌
         both = rw (ne_eqb k 12 ne, ← er, ev, ← eq, ew)
 
-        operation_integers : k < 12 → (o : Arithmetic) → outcome o ≡ arithmetic_operated k v w → (g : Given) → g ≡ of_product (outcome o) → g ≡ operation_given p l h t k a b
+        operation_integers : k < 12 → (o : Checked ℤ End) → outcome o ≡ arithmetic_operated k v w → (g : Given) → g ≡ of_product (outcome o) → g ≡ operation_given p l h t k a b
         operation_integers lt o eo g eg = eg ∙ ap of_product (eo ∙ arithmetic_means (constants_held p l) (texts_held h t) k v w lt) ∙ sym both
 
         module _ (ge : 12 ≤ k) (c : Bool) (ec : c ≡ compared (constants_held p l) (texts_held h t) k v w) where
@@ -122,7 +124,7 @@ module _ (p l h t : List ℕ) (k a b : ℕ) where
           operation_second ne (Fetched.Found v) (number_some p h a m em some v refl) v refl Fetched.Undefined (number_none p h b n en e) refl
 
       module _ (both : n ≡ 5 → ⊥) (v w : Value) (ev : v ≡ value_of (m % 8) (m / 8 % 4294967296)) (ew : w ≡ value_of (n % 8) (n / 8 % 4294967296)) where
-        pub number_integers : k < 12 → (o : Arithmetic) → outcome o ≡ arithmetic_operated k v w → (g : Given) → g ≡ of_product (outcome o) → g ≡ operation_given p l h t k a b
+        pub number_integers : k < 12 → (o : Checked ℤ End) → outcome o ≡ arithmetic_operated k v w → (g : Given) → g ≡ of_product (outcome o) → g ≡ operation_given p l h t k a b
         number_integers = operation_integers ne (Fetched.Found v) (number_some p h a m em some v ev) v refl (Fetched.Found w) (number_some p h b n en both w ew) w refl
 
         module _ (ge : 12 ≤ k) (c : Bool) (ec : c ≡ compared (constants_held p l) (texts_held h t) k v w) where

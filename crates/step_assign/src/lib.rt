@@ -13,8 +13,7 @@ ghost use Rattle.commit.specs.Commit.{root_of, set_root, assignment};
 ghost use Rattle.commit.specs.Direct.{CanDoEntry, Does};
 ghost use Rattle.step_assign.specs.Assign.{of_base, of_not, of_product, operation_given, expression_given, PutsSlot, Puts, PutsFrom};
 
-use arith::Arithmetic;
-use framed::{Text, Value};
+use framed::{End, Text, Value};
 use paths::{Fetched, SlotFound};
 use puts::PutTarget;
 use tables::ExpressionEntry;
@@ -51,12 +50,12 @@ fn negation(p: &[u32], h: &[u32], a: u32) -> Given
 }
 
 // What `+ - * / <` give.
-fn from_arithmetic(a: Arithmetic) -> Given
+fn from_arithmetic(a: Result<i32, End>) -> Given
     ensures { result ≡ of_product (outcome a) }
 {
     match a {
-        Arithmetic::Integer(n) => Given::Value(Value::Int(n)),
-        Arithmetic::Ended(e) => Given::Ended(e),
+        Ok(n) => Given::Value(Value::Int(n)),
+        Err(e) => Given::Ended(answers::end_number(e)),
     }
 }
 

@@ -8,6 +8,7 @@ use native.Mathlib.Decide.{dec_lt}
 use lib.Dec.{eqb}
 use lib.ListN.{length, take, get_elem?}
 use borrow.Author.Tests.{eqb-true, le-leb, lt-leb}
+use Rattle.std.specs.Prelude.{Ok}
 use Rattle.framed.specs.declared.Value.{Value}
 use Rattle.framed.specs.Values.{join_bytes}
 use Rattle.framed.specs.Machine.{defined, is_join, right_side}
@@ -37,7 +38,7 @@ use Rattle.bounded.specs.Check.{slot_end, target_end}
 use Rattle.operands.specs.Operands.{operand_value, unpacked}
 use Rattle.operands.proofs.Numbers.{number_none, number_some}
 use Rattle.operators.specs.declared.Operated.{Operated}
-use Rattle.operators.specs.Operators.{operator_of, of_join}
+use Rattle.operators.specs.Operators.{operator_of}
 use Rattle.operators.proofs.Laws.{operates_join, end_join}
 use Rattle.operand_checks.specs.OperandChecks.{put_end}
 use Rattle.operand_checks.proofs.Laws as ends-laws
@@ -231,11 +232,11 @@ module _ (p l h t : List ℕ) (i : ℕ) (bs : List ℕ) (on : CanPutJoin p l h t
     m = joins_made p l h t v w (record { readable = readable p l h t i v w can; short = short }) bs on.bytes u h₁ t₁ made
 
     evaluates : Evaluates p l h t (instruction_c p i) u h₁ t₁
-    unfolding defined of_join
+    unfolding defined
     evaluates =
         operation_made p l h t (instruction_c p i) value 12 a b entry u h₁ t₁
         (producing.operation_both p l h t 12 a b produces (Fetched.Found v) can.first v refl (Fetched.Found w) can.second w u h₁ t₁ refl
-        (produce_joined p l h t 12 v w produces Operated.Joined (operates_join p l h t 12 v w Operated.Joined (omega arith) refl 0 on.end refl) refl u h₁ t₁ m))
+        (produce_joined p l h t 12 v w produces (Ok Operated.Joined) (operates_join p l h t 12 v w (omega arith) refl on.end) refl u h₁ t₁ m))
 
     same_frames : frames_held h₁ ≡ frames_held h
     unfolding is_join operator_of

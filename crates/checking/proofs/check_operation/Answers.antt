@@ -7,5 +7,8 @@ returns-in_default c = search operation_left
 pub returns-in_default-operand : goal.returns-in_default-operand
 returns-in_default-operand c = search operation_right
 
-pub returns : goal.returns
-returns c = search operation_both
+pub returns-in-Ok : goal.returns-in-Ok
+returns-in-Ok c = let e = c.in-Ok.ensures in search operation_both
+
+pub returns-in-Err : goal.returns-in-Err
+returns-in-Err c = let e = c.in-Err.ensures in let n = c.end_number.ensures in search (operation_both, n)
