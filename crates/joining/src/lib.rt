@@ -2,6 +2,7 @@
 #![tactic(auto)]
 
 ghost use Rattle.std.specs.Prelude.{◌≡◌, ◌+◌};
+ghost use Rattle.framed.specs.Answers.{end_met};
 ghost use Rattle.framed.specs.Values.{join_bytes};
 ghost use Rattle.heap.specs.Held.{texts_held};
 ghost use Rattle.shown.specs.Shown.{shown_size};
@@ -10,18 +11,18 @@ ghost use Rattle.texts.specs.Literals.{literals_held};
 ghost use Rattle.texts.specs.Texts.{Readable};
 ghost use Rattle.joining.specs.Joining.{join_end};
 
-use framed::Value;
+use framed::{End, Value};
 
-// The end of `#`: 34 above 64 bytes, else 0.
-pub fn join_end(p: &[u32], h: &[u32], v: Value, w: Value) -> u32
-    ensures { result ≡ join_end p.now h.now v w }
+// The end of `#`: 34 above 64 bytes, else none.
+pub fn join_end(p: &[u32], h: &[u32], v: Value, w: Value) -> Result<(), End>
+    ensures { end_met result ≡ join_end p.now h.now v w }
 {
     let n = words::wide(shown::shown_size(p, h, v));
     let m = words::wide(shown::shown_size(p, h, w));
     if n + m <= 64 {
-        return 0;
+        return Ok(());
     }
-    34
+    Err(End::TextLength)
 }
 
 // The bytes of the one, then those of the other, from the start of a buffer on: how many they are. What would lie past its end is dropped.

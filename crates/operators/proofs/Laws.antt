@@ -5,15 +5,20 @@ use mathlib.Core.Bool.{Bool, true, false, ◌&&◌, ◌||◌}
 use mathlib.Core.List.{List, []}
 use native.Mathlib.Omega.{arith}
 use lib.Dec.{eqb}
-use lib.IntN.{ℤ, pos, ◌+ℤ◌, ◌-ℤ◌, ◌*ℤ◌}
+use lib.IntN.{ℤ, ◌+ℤ◌, ◌-ℤ◌, ◌*ℤ◌}
 use lib.Signed.{lt_z}
+use mir.Syntax.{w32}
+use mir.Val.{to_z, bool_byte}
 use borrow.Author.Tests.{eq-eqb, ne_eqb, lt-ltb, le-ltb}
+use Rattle.std.specs.Prelude.{Result, Ok, Err, IsErrAnd}
 use Rattle.words.specs.Words.{pick}
+use Rattle.framed.specs.declared.End.{End}
 use Rattle.framed.specs.declared.Value.{Value}
 use Rattle.framed.specs.Tokens.{Operator}
 use Rattle.framed.specs.Machine.{◌>>=◌, gives, ends, integer_in}
-use Rattle.bounded.specs.Operations.{flag, ranged, operated}
+use Rattle.bounded.specs.Operations.{flag, number, ranged, operated}
 use Rattle.framed.specs.Values.{join_bytes, truth}
+use Rattle.framed.specs.Answers.{end_number, end_met}
 use Rattle.framed.specs.Equality.{Constants, equal_values}
 use Rattle.bounded.specs.Check.{end_of}
 use Rattle.heap.specs.Held.{texts_held}
@@ -21,37 +26,41 @@ use Rattle.texts.specs.Literals.{literals_held}
 use Rattle.program_equality.specs.Agreement.{constants_held}
 use Rattle.joining.specs.Joining.{join_end, join_result}
 use Rattle.joining.proofs.Meaning.{join_means}
-use Rattle.arith.specs.declared.Arithmetic.{Arithmetic}
 use Rattle.arith.specs.Arith.{outcome, divided}
 use Rattle.operators.specs.declared.Operated.{Operated}
-use Rattle.operators.specs.Operators.{operator_of, operation, arithmetic_of, no_constants, arithmetic_operated, integer_operated, compared, of_arithmetic, of_join, of_flag, Operates}
+use Rattle.operators.specs.Operators.{operator_of, arithmetic_of, no_constants, arithmetic_operated, integer_operated, compared, Operates}
 
 -- ---- integers
 
-module _ (k : ℕ) (y z a b : ℤ) where
-  pub is_plus : (r : Arithmetic) → k ≡ 7 → outcome r ≡ ranged (a +ℤ b) → a ≡ y → b ≡ z → outcome r ≡ integer_operated k y z
-  unfolding integer_operated arithmetic_operated arithmetic_of operated integer_in ◌>>=◌
-  is_plus r e q ea eb = q ∙ rw (eq-eqb k 7 e, ea, eb)
+-- a flag as the code's integer
+abbrev bit : Bool → ℤ
+bit t = to_z w32 (bool_byte t)
 
-  pub is_minus : (r : Arithmetic) → (k ≡ 7 → ⊥) → k ≡ 8 → outcome r ≡ ranged (a -ℤ b) → a ≡ y → b ≡ z → outcome r ≡ integer_operated k y z
-  unfolding integer_operated arithmetic_operated arithmetic_of operated integer_in ◌>>=◌
-  is_minus r n7 e q ea eb = q ∙ rw (ne_eqb k 7 n7, eq-eqb k 8 e, ea, eb)
+bit_is : (t : Bool) → gives (number (bit t)) ≡ gives (flag t)
+unfolding flag
+bit_is true = refl
+bit_is false = refl
 
-  pub is_times : (r : Arithmetic) → (k ≡ 7 → ⊥) → (k ≡ 8 → ⊥) → k ≡ 9 → outcome r ≡ ranged (a *ℤ b) → a ≡ y → b ≡ z → outcome r ≡ integer_operated k y z
+module _ (k : ℕ) (y z a b : ℤ) (ea : a ≡ y) (eb : b ≡ z) where
+  pub is_plus : (r : Result ℤ End) → k ≡ 7 → outcome r ≡ ranged (a +ℤ b) → outcome r ≡ integer_operated k y z
   unfolding integer_operated arithmetic_operated arithmetic_of operated integer_in ◌>>=◌
-  is_times r n7 n8 e q ea eb = q ∙ rw (ne_eqb k 7 n7, ne_eqb k 8 n8, eq-eqb k 9 e, ea, eb)
+  is_plus r e q = q ∙ rw (e, ea, eb)
 
-  pub is_over : (r : Arithmetic) → (k ≡ 7 → ⊥) → (k ≡ 8 → ⊥) → (k ≡ 9 → ⊥) → k ≡ 10 → outcome r ≡ divided a b → a ≡ y → b ≡ z → outcome r ≡ integer_operated k y z
+  pub is_minus : (r : Result ℤ End) → k ≡ 8 → outcome r ≡ ranged (a -ℤ b) → outcome r ≡ integer_operated k y z
+  unfolding integer_operated arithmetic_operated arithmetic_of operated integer_in ◌>>=◌
+  is_minus r e q = q ∙ rw (e, ea, eb)
+
+  pub is_times : (r : Result ℤ End) → k ≡ 9 → outcome r ≡ ranged (a *ℤ b) → outcome r ≡ integer_operated k y z
+  unfolding integer_operated arithmetic_operated arithmetic_of operated integer_in ◌>>=◌
+  is_times r e q = q ∙ rw (e, ea, eb)
+
+  pub is_over : (r : Result ℤ End) → k ≡ 10 → outcome r ≡ divided a b → outcome r ≡ integer_operated k y z
   unfolding integer_operated arithmetic_operated arithmetic_of operated integer_in ◌>>=◌ divided
-  is_over r n7 n8 n9 e q ea eb = q ∙ rw (ne_eqb k 7 n7, ne_eqb k 8 n8, ne_eqb k 9 n9, eq-eqb k 10 e, ea, eb)
+  is_over r e q = q ∙ rw (e, ea, eb)
 
-  pub is_less : (t : Bool) → (k ≡ 7 → ⊥) → (k ≡ 8 → ⊥) → (k ≡ 9 → ⊥) → (k ≡ 10 → ⊥) → t ≡ lt_z a b → t ≡ true → a ≡ y → b ≡ z → outcome (Arithmetic.Integer (pos 1)) ≡ integer_operated k y z
-  unfolding integer_operated arithmetic_operated arithmetic_of operated integer_in ◌>>=◌ flag
-  is_less t n7 n8 n9 n10 q e ea eb = rw (ne_eqb k 7 n7, ne_eqb k 8 n8, ne_eqb k 9 n9, ne_eqb k 10 n10, ← ea, ← eb, ← q, e)
-
-  pub is_not_less : (t : Bool) → (k ≡ 7 → ⊥) → (k ≡ 8 → ⊥) → (k ≡ 9 → ⊥) → (k ≡ 10 → ⊥) → t ≡ lt_z a b → t ≡ false → a ≡ y → b ≡ z → outcome (Arithmetic.Integer (pos 0)) ≡ integer_operated k y z
-  unfolding integer_operated arithmetic_operated arithmetic_of operated integer_in ◌>>=◌ flag
-  is_not_less t n7 n8 n9 n10 q e ea eb = rw (ne_eqb k 7 n7, ne_eqb k 8 n8, ne_eqb k 9 n9, ne_eqb k 10 n10, ← ea, ← eb, ← q, e)
+  pub is_less : (t : Bool) → (k ≡ 7 → ⊥) → (k ≡ 8 → ⊥) → (k ≡ 9 → ⊥) → (k ≡ 10 → ⊥) → t ≡ lt_z a b → outcome (Ok (bit t)) ≡ integer_operated k y z
+  unfolding integer_operated arithmetic_operated arithmetic_of operated integer_in ◌>>=◌
+  is_less t n7 n8 n9 n10 q = rw (ne_eqb k 7 n7, ne_eqb k 8 n8, ne_eqb k 9 n9, ne_eqb k 10 n10, ← ea, ← eb, ← q) (bit_is t)
 
 -- ---- arithmetic
 
@@ -68,56 +77,30 @@ arithmetic_case P a b c d e k = go (eqb k 7) (eqb k 8) (eqb k 9) (eqb k 10)
     go false false false false = e
 
 module _ (k : ℕ) (v w : Value) where
-  pub left_else : ((k : ℤ) → v ≡ Value.Int k → ⊥) → outcome (Arithmetic.Ended 31) ≡ arithmetic_operated k v w
+  pub left_else : ((k : ℤ) → v ≡ Value.Int k → ⊥) → outcome (Err End.NoRule) ≡ arithmetic_operated k v w
   unfolding arithmetic_operated operated integer_in ◌>>=◌
   left_else o = go v o
     where
-      go : (u : Value) → ((k : ℤ) → u ≡ Value.Int k → ⊥) → outcome (Arithmetic.Ended 31) ≡ operated no_constants [] (arithmetic_of k) u w
+      go : (u : Value) → ((k : ℤ) → u ≡ Value.Int k → ⊥) → outcome (Err End.NoRule) ≡ operated no_constants [] (arithmetic_of k) u w
       go (Value.Int y) q = absurd (q y refl)
       go (Value.Text x) q = arithmetic_case (λ o. ends 31 ≡ operated no_constants [] o (Value.Text x) w) refl refl refl refl refl k
       go (Value.Code n) q = arithmetic_case (λ o. ends 31 ≡ operated no_constants [] o (Value.Code n) w) refl refl refl refl refl k
       go (Value.Frame n) q = arithmetic_case (λ o. ends 31 ≡ operated no_constants [] o (Value.Frame n) w) refl refl refl refl refl k
 
   module _ (y : ℤ) (ev : v ≡ Value.Int y) where
-    pub right_else : ((k : ℤ) → w ≡ Value.Int k → ⊥) → outcome (Arithmetic.Ended 31) ≡ arithmetic_operated k v w
+    pub right_else : ((k : ℤ) → w ≡ Value.Int k → ⊥) → outcome (Err End.NoRule) ≡ arithmetic_operated k v w
     unfolding arithmetic_operated operated integer_in ◌>>=◌
     right_else o = rw ev (go w o)
       where
-        go : (u : Value) → ((k : ℤ) → u ≡ Value.Int k → ⊥) → outcome (Arithmetic.Ended 31) ≡ operated no_constants [] (arithmetic_of k) (Value.Int y) u
+        go : (u : Value) → ((k : ℤ) → u ≡ Value.Int k → ⊥) → outcome (Err End.NoRule) ≡ operated no_constants [] (arithmetic_of k) (Value.Int y) u
         go (Value.Int z) q = absurd (q z refl)
         go (Value.Text x) q = arithmetic_case (λ o. ends 31 ≡ operated no_constants [] o (Value.Int y) (Value.Text x)) refl refl refl refl refl k
         go (Value.Code n) q = arithmetic_case (λ o. ends 31 ≡ operated no_constants [] o (Value.Int y) (Value.Code n)) refl refl refl refl refl k
         go (Value.Frame n) q = arithmetic_case (λ o. ends 31 ≡ operated no_constants [] o (Value.Int y) (Value.Frame n)) refl refl refl refl refl k
 
-    pub both_integers : (z a b : ℤ) (r : Arithmetic) → w ≡ Value.Int z → outcome r ≡ integer_operated k a b → a ≡ y → b ≡ z → outcome r ≡ arithmetic_operated k v w
+    pub both_integers : (z a b : ℤ) (r : Result ℤ End) → w ≡ Value.Int z → outcome r ≡ integer_operated k a b → a ≡ y → b ≡ z → outcome r ≡ arithmetic_operated k v w
     unfolding integer_operated
     both_integers z a b r ew q ea eb = q ∙ rw (ev, ew, ea, eb)
-
--- ---- of_arithmetic, of_join, of_flag
-
-pub answers_integer : (a : Arithmetic) (y z : ℤ) → a ≡ Arithmetic.Integer z → y ≡ z → Operated.Integer y ≡ of_arithmetic a
-unfolding of_arithmetic
-answers_integer a y z e q = rw (e, q)
-
-pub answers_end : (a : Arithmetic) (e : ℕ) → a ≡ Arithmetic.Ended e → Operated.Ended e ≡ of_arithmetic a
-unfolding of_arithmetic
-answers_end a e q = rw q
-
-pub answers_joined : (e : ℕ) → e ≡ 0 → Operated.Joined ≡ of_join e
-unfolding of_join
-answers_joined e q = rw (eq-eqb e 0 q)
-
-pub answers_not_joined : (e : ℕ) → (e ≡ 0 → ⊥) → Operated.Ended e ≡ of_join e
-unfolding of_join
-answers_not_joined e q = rw (ne_eqb e 0 q)
-
-pub answers_one : (b : Bool) → b ≡ true → Operated.Integer (pos 1) ≡ of_flag b
-unfolding of_flag
-answers_one b e = rw e
-
-pub answers_zero : (b : Bool) → b ≡ false → Operated.Integer (pos 0) ≡ of_flag b
-unfolding of_flag
-answers_zero b e = rw e
 
 -- ---- compare
 
@@ -137,20 +120,21 @@ module _ (c : Constants) (made : List (List ℕ)) (k : ℕ) (v w : Value) where
 
 -- ---- operate
 
-of_arithmetic_is : (a : Arithmetic) (bs : List ℕ) → operation (of_arithmetic a) bs ≡ outcome a
-unfolding of_arithmetic
-of_arithmetic_is (Arithmetic.Integer z) bs = refl
-of_arithmetic_is (Arithmetic.Ended e) bs = refl
+-- an end that `?` passes on
+passed : {A : Type 0} (r : Result A End) (e : End) → IsErrAnd r (λ x. x ≡ e) → r ≡ Err e
+passed (Ok a) e q = absurd q
+passed (Err x) e q = rw q
 
-of_join_is : (e : ℕ) (bs : List ℕ) → operation (of_join e) bs ≡ join_result e bs
-unfolding of_join join_result
-of_join_is zero bs = refl
-of_join_is (suc e) bs = rw (ne_eqb (suc e) 0 (omega arith))
-
-of_flag_is : (b : Bool) (bs : List ℕ) → operation (of_flag b) bs ≡ gives (flag b)
-unfolding of_flag flag
-of_flag_is true bs = refl
-of_flag_is false bs = refl
+-- an end of a join has a number other than 0
+join_ended : (e : End) (bs : List ℕ) → join_result (end_number e) bs ≡ ends (end_number e)
+unfolding join_result
+join_ended End.NoRule bs = refl
+join_ended End.DivisorZero bs = refl
+join_ended End.IntegerRange bs = refl
+join_ended End.TextLength bs = refl
+join_ended End.SlotLimit bs = refl
+join_ended End.FramesFull bs = refl
+join_ended End.TextsFull bs = refl
 
 -- what `arithmetic` and `compare` say is what the operator gives
 module _ (c : Constants) (made : List (List ℕ)) (k : ℕ) (v w : Value) where
@@ -182,16 +166,23 @@ module _ (p l h t : List ℕ) (k : ℕ) (v w : Value) where
   unfolding operator_of constants_held
   join_held ge ek = rw (le-ltb k 12 ge, eq-eqb k 12 ek) (join_means p l h t v w held refl)
 
-  module _ (r : Operated) where
-    pub operates_integers : k < 12 → (a : Arithmetic) → outcome a ≡ arithmetic_operated k v w → r ≡ of_arithmetic a → Operates p l h t k v w r
-    operates_integers lt a ea er = record { is = rw (er, of_arithmetic_is a bytes, ea) (arithmetic_means held made k v w lt) }
+  module _ (lt : k < 12) where
+    pub operates_integer : (y z : ℤ) → outcome (Ok z) ≡ arithmetic_operated k v w → y ≡ z → Operates p l h t k v w (Ok (Operated.Integer y))
+    operates_integer y z ea q = record { is = rw (q, ea) (arithmetic_means held made k v w lt) }
 
-    module _ (ge : 12 ≤ k) where
-      pub operates_join : k ≡ 12 → (e : ℕ) → e ≡ join_end p h v w → r ≡ of_join e → Operates p l h t k v w r
-      operates_join ek e ee er = record { is = rw (er, of_join_is e bytes, ee) (sym (join_held ge ek)) }
+    pub operates_end : (e : End) → outcome (Err e) ≡ arithmetic_operated k v w → (r : Result Operated End) → IsErrAnd r (λ x. x ≡ e) → Operates p l h t k v w r
+    operates_end e ea r q = record { is = rw (passed r e q, ea) (arithmetic_means held made k v w lt) }
 
-      pub operates_flag : (k ≡ 12 → ⊥) → (b : Bool) → b ≡ compared held made k v w → r ≡ of_flag b → Operates p l h t k v w r
-      operates_flag n b eb er = record { is = rw (er, of_flag_is b bytes, eb) (compared_means held made k v w ge n) }
+  module _ (ge : 12 ≤ k) (ek : k ≡ 12) where
+    pub operates_join : 0 ≡ join_end p h v w → Operates p l h t k v w (Ok Operated.Joined)
+    unfolding join_result
+    operates_join e = record { is = rw (join_held ge ek, ← e) }
+
+    pub operates_too_long : (e : End) → end_number e ≡ join_end p h v w → (r : Result Operated End) → IsErrAnd r (λ x. x ≡ e) → Operates p l h t k v w r
+    operates_too_long e q r er = record { is = rw (passed r e er, join_held ge ek, ← q, join_ended e bytes) }
+
+  pub operates_flag : 12 ≤ k → (k ≡ 12 → ⊥) → (b : Bool) → b ≡ compared held made k v w → Operates p l h t k v w (Ok (Operated.Integer (bit b)))
+  operates_flag ge n b eb = record { is = rw (eb, bit_is (compared held made k v w)) (compared_means held made k v w ge n) }
 
   -- operate_end
   pub end_compared : 12 < k → 0 ≡ end_of (operated held made (operator_of k) v w)
@@ -206,18 +197,15 @@ module _ (p l h t : List ℕ) (k : ℕ) (v w : Value) where
       go zero = refl
       go (suc n) = refl
 
-  module _ (lt : k < 12) (a : Arithmetic) (ea : outcome a ≡ arithmetic_operated k v w) where
+  module _ (a : Result ℤ End) (lt : k < 12) (ea : outcome a ≡ arithmetic_operated k v w) where
     arithmetic_held : operated held made (operator_of k) v w ≡ outcome a
     arithmetic_held = sym (ea ∙ arithmetic_means held made k v w lt)
 
-    pub end_is : (e : ℕ) → a ≡ Arithmetic.Ended e → e ≡ end_of (operated held made (operator_of k) v w)
+  module _ (lt : k < 12) where
+    pub end_is : (e : End) → outcome (Err e) ≡ arithmetic_operated k v w → {A : Type 0} (r : Result A End) → IsErrAnd r (λ x. x ≡ e) → end_met r ≡ end_of (operated held made (operator_of k) v w)
     unfolding end_of
-    end_is e er = rw (arithmetic_held, er)
+    end_is e ea r er = rw (arithmetic_held (Err e) lt ea, passed r e er)
 
-    pub end_else : ((k : ℕ) → a ≡ Arithmetic.Ended k → ⊥) → 0 ≡ end_of (operated held made (operator_of k) v w)
+    pub end_none : (z : ℤ) → outcome (Ok z) ≡ arithmetic_operated k v w → 0 ≡ end_of (operated held made (operator_of k) v w)
     unfolding end_of
-    end_else q = rw arithmetic_held (go a q)
-      where
-        go : (x : Arithmetic) → ((k : ℕ) → x ≡ Arithmetic.Ended k → ⊥) → 0 ≡ end_of (outcome x)
-        go (Arithmetic.Integer z) m = refl
-        go (Arithmetic.Ended e) m = absurd (m e refl)
+    end_none z ea = rw (arithmetic_held (Ok z) lt ea)

@@ -1,7 +1,9 @@
 -- docs/LAYOUT.md, expressions of kinds 7 to 15: the operator of a kind, and what the code's answer says. What the operator gives is `bounded`'s `operated`. Assumes nothing.
-use Rattle.std.specs.Prelude.{ℕ, ◌≡◌, Bool, ◌&&◌, ◌||◌, List, [], eqb, ltb, ℤ, pos}
+use Rattle.std.specs.Prelude.{ℕ, ◌≡◌, Bool, ◌&&◌, ◌||◌, List, [], eqb, ltb, ℤ, Ok, Err, Result as Checked}
 use Rattle.words.specs.Words.{pick}
+use Rattle.framed.specs.declared.End.{End}
 use Rattle.framed.specs.declared.Value.{Value}
+use Rattle.framed.specs.Answers.{end_number}
 use Rattle.framed.specs.Values.{join_bytes, truth}
 use Rattle.framed.specs.Equality.{Constants, equal_values}
 use Rattle.framed.specs.Tokens.{Operator}
@@ -12,7 +14,6 @@ use Rattle.program_form.specs.WellFormed.{WellFormed}
 use Rattle.texts.specs.Literals.{literals_held}
 use Rattle.texts.specs.Texts.{Readable}
 use Rattle.program_equality.specs.Agreement.{constants_held}
-use Rattle.arith.specs.declared.Arithmetic.{Arithmetic}
 use Rattle.operators.specs.declared.Operated.{Operated}
 
 -- the kinds below 12 want two integers
@@ -32,10 +33,10 @@ operator_of k =
     (pick (eqb k 14) Operator.and Operator.or)))
 
 -- the answer of `operate`, where these are the bytes of the two values joined
-abbrev pub operation : Operated → List ℕ → Result Product
-operation (Operated.Integer z) bs = gives (number z)
-operation Operated.Joined bs = gives (text bs)
-operation (Operated.Ended e) bs = ends e
+abbrev pub operation : Checked Operated End → List ℕ → Result Product
+operation (Ok (Operated.Integer z)) bs = gives (number z)
+operation (Ok Operated.Joined) bs = gives (text bs)
+operation (Err e) bs = ends (end_number e)
 
 -- the kinds below 12 look at no text and at no code
 abbrev pub no_constants : Constants
@@ -58,18 +59,7 @@ unfoldable pub compared : Constants → List (List ℕ) → ℕ → Value → Va
 compared c made k v w =
     pick (eqb k 13) (equal_values c made v w) (pick (eqb k 14) (truth v && truth w) (truth v || truth w))
 
--- the answer of each group as that of `operate`
-unfoldable pub of_arithmetic : Arithmetic → Operated
-of_arithmetic (Arithmetic.Integer z) = Operated.Integer z
-of_arithmetic (Arithmetic.Ended e) = Operated.Ended e
-
-unfoldable pub of_join : ℕ → Operated
-of_join e = pick (eqb e 0) Operated.Joined (Operated.Ended e)
-
-unfoldable pub of_flag : Bool → Operated
-of_flag b = pick b (Operated.Integer (pos 1)) (Operated.Integer (pos 0))
-
 -- the operator of the kind gives what the answer says
-pub record Operates (p l h t : List ℕ) (k : ℕ) (v w : Value) (r : Operated) : Type 0 where
+pub record Operates (p l h t : List ℕ) (k : ℕ) (v w : Value) (r : Checked Operated End) : Type 0 where
   pub is :
       operation r (join_bytes (literals_held p l) (texts_held h t) v w) ≡ operated (constants_held p l) (texts_held h t) (operator_of k) v w
