@@ -9,17 +9,13 @@ ghost use Rattle.producing.specs.Producing.{read_value, MakesText, CanJoin, Join
 
 use framed::{Text, Value};
 use operators::Operated;
-use paths::Fetched;
 use tables::ExpressionEntry;
 
 // The value of an expression read as a base.
 pub fn given(p: &[u32], h: &[u32], x: u32) -> Value
     ensures { result ≡ value_given (operand_value p.now h.now x) }
 {
-    let Fetched::Found(v) = operands::operand(p, h, x) else {
-        return Value::Int(0);
-    };
-    v
+    operands::operand(p, h, x).unwrap_or(Value::Int(0))
 }
 
 // The value of an expression that makes nothing: `!` of a base, or a base.
@@ -73,11 +69,10 @@ fn produce(
     requires texts_full { TextsFull h.old low }
     ensures { Produces p.now l.now h.old t.old kind v w result h.new t.new }
 {
-    let o = operators::operate(p, l, h, t, kind, v, w);
-    match o {
-        Operated::Integer(n) => Value::Int(n),
-        Operated::Joined => join(p, l, h, t, v, w, low),
-        Operated::Ended(_) => Value::Int(0),
+    match operators::operate(p, l, h, t, kind, v, w) {
+        Ok(Operated::Integer(n)) => Value::Int(n),
+        Ok(Operated::Joined) => join(p, l, h, t, v, w, low),
+        Err(_) => Value::Int(0),
     }
 }
 
@@ -96,10 +91,10 @@ pub fn operation(
     requires texts_full { TextsFull h.old low }
     ensures { Operates p.now l.now h.old t.old kind a b result h.new t.new }
 {
-    let Fetched::Found(v) = operands::operand(p, h, a) else {
+    let Some(v) = operands::operand(p, h, a) else {
         return Value::Int(0);
     };
-    let Fetched::Found(w) = operands::operand(p, h, b) else {
+    let Some(w) = operands::operand(p, h, b) else {
         return Value::Int(0);
     };
     produce(p, l, h, t, kind, v, w, low)
