@@ -7,6 +7,8 @@ use native.Mathlib.Omega.{arith}
 use native.Mathlib.Decide.{ℕ_discrete, dec_le}
 use lib.ListN.{length}
 use borrow.Author.Tests.{not-true, not-false}
+use Rattle.std.specs.Prelude.{Option, None, Some, MatchOption}
+use Rattle.std.specs.Option.{unwrap_or}
 use Rattle.words.specs.Words.{pick}
 use Rattle.heap.specs.Words.{frame_used, text_used}
 use Rattle.heap.specs.Lists.{passing}
@@ -51,19 +53,27 @@ seek_from t (suc i) le p =
     let e : i + 1 ≡ suc i = omega arith in
     rw e at (seek_again t i (seek_from t i (omega arith) (λ k l. p k (omega arith))) (omega arith) true (sym (p i (omega arith))) refl)
 
-pub seek_full : (h : List ℕ) (low : ℕ) → FullBelow h low → Seek (frame_used h) low
-seek_full h low a = go (dec_le low 256)
+-- what `find` gives, from a number on below which all pass
+pub lowest_found : (t : ℕ → Bool) (low : ℕ) (r : Option ℕ) → ((k : ℕ) → k < low → (k < 256) × (t k ≡ true))
+    → MatchOption r ((k : ℕ) → low ≤ k → k < 256 → t k ≡ true) (λ i. (low ≤ i) × (i < 256) × (t i ≡ false) × ((k : ℕ) → low ≤ k → k < i → t k ≡ true))
+    → unwrap_or r 256 ≡ lowest_from t 256 0
+lowest_found t low None p m = seek_none t 256 (seek_from t 256 (omega arith) (λ k lt. either k (dec_le low k) lt)) (omega arith)
   where
-    go : Dec (low ≤ 256) → Seek (frame_used h) low
-    go (yes le) = seek_from (frame_used h) low le (λ k lt. (a.in_use k lt).used)
-    go (no gt) = absurd (let q = (a.in_use 256 (omega arith)).small in omega arith)
+    either : (k : ℕ) → Dec (low ≤ k) → k < 256 → t k ≡ true
+    either k (yes le) lt = m k le lt
+    either k (no gt) lt = (p k (omega arith)).1
+lowest_found t low (Some i) p (lo, hi, free, before) =
+    seek_here t i (seek_from t i (omega arith) (λ k lt. either k (dec_le low k) lt)) hi false (sym free) refl
+  where
+    either : (k : ℕ) → Dec (low ≤ k) → k < i → t k ≡ true
+    either k (yes le) lt = before k le lt
+    either k (no gt) lt = (p k (omega arith)).1
 
-pub seek_texts : (h : List ℕ) (low : ℕ) → TextsFull h low → Seek (text_used h) low
-seek_texts h low a = go (dec_le low 256)
-  where
-    go : Dec (low ≤ 256) → Seek (text_used h) low
-    go (yes le) = seek_from (text_used h) low le (λ k lt. (a.in_use k lt).used)
-    go (no gt) = absurd (let q = (a.in_use 256 (omega arith)).small in omega arith)
+pub frames_full : (h : List ℕ) (low : ℕ) → FullBelow h low → (k : ℕ) → k < low → (k < 256) × (frame_used h k ≡ true)
+frames_full h low a k lt = ((a.in_use k lt).small, (a.in_use k lt).used)
+
+pub texts_full : (h : List ℕ) (low : ℕ) → TextsFull h low → (k : ℕ) → k < low → (k < 256) × (text_used h k ≡ true)
+texts_full h low a k lt = ((a.in_use k lt).small, (a.in_use k lt).used)
 
 -- ---- What the number is
 

@@ -19,14 +19,7 @@ pub fn lowest_frame(h: &[u32], low: u32) -> u32
     requires { FullBelow h.now low }
     ensures { result ≡ next_frame h.now }
 {
-    let mut f = low;
-    while f < 256 {
-        if !heap::frame_used(h, f) {
-            return f;
-        }
-        f += 1;
-    }
-    256
+    (low..256).find(|f| !heap::frame_used(h, *f)).unwrap_or(256)
 }
 
 // The lowest made text number not in use, 256 where all are; those below `low` are.
@@ -34,12 +27,5 @@ pub fn lowest_text(h: &[u32], low: u32) -> u32
     requires { TextsFull h.now low }
     ensures { result ≡ next_text h.now }
 {
-    let mut k = low;
-    while k < 256 {
-        if !heap::text_used(h, k) {
-            return k;
-        }
-        k += 1;
-    }
-    256
+    (low..256).find(|k| !heap::text_used(h, *k)).unwrap_or(256)
 }

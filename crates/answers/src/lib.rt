@@ -2,10 +2,10 @@
 #![tactic(auto)]
 
 ghost use Rattle.std.specs.Prelude.{◌≡◌};
-ghost use Rattle.framed.specs.Answers.{load_number, stop_word, makers_number};
+ghost use Rattle.framed.specs.Answers.{end_number, load_number, stop_word, makers_number};
 ghost use Rattle.answers.specs.Numbers.{stopped_number, run_number, collect_number, look_number, write_number};
 
-use framed::{CollectAnswer, LoadAnswer, LookAnswer, MakersAnswer, RunAnswer, Stop, WriteAnswer};
+use framed::{CollectAnswer, End, LoadAnswer, LookAnswer, MakersAnswer, RunAnswer, Stop, WriteAnswer};
 
 pub fn load_number(a: LoadAnswer) -> u32
     ensures { result ≡ load_number a }
@@ -24,6 +24,21 @@ pub fn load_number(a: LoadAnswer) -> u32
         LoadAnswer::AboveProgram => 10,
         LoadAnswer::NoStart => 11,
         LoadAnswer::WrittenFrames => 12,
+    }
+}
+
+// 31 to 37.
+pub fn end_number(e: End) -> u32
+    ensures { result ≡ end_number e }
+{
+    match e {
+        End::NoRule => 31,
+        End::DivisorZero => 32,
+        End::IntegerRange => 33,
+        End::TextLength => 34,
+        End::SlotLimit => 35,
+        End::FramesFull => 36,
+        End::TextsFull => 37,
     }
 }
 
