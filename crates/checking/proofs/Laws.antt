@@ -1,12 +1,13 @@
 -- One law for each way through the functions of this crate, for what each call asks and for each fall of the measure. Assumes nothing.
 use Prim.Native.Nat.{ℕ, zero, suc, ◌+◌, ◌-◌, ◌≤◌, ◌<◌}
 use mathlib.Core.Path.{◌≡◌, refl, ◌∙◌, sym}
-use mathlib.Core.List.{List, []}
+use mathlib.Core.List.{List}
 use mathlib.Core.Bool.{Bool, true, false}
 use native.Mathlib.Omega.{arith}
 use native.Mathlib.Decide.{dec_lt, ℕ_discrete}
 use lib.Dec.{ltb}
 use borrow.Author.Tests.{ne_eqb, le-ltb}
+use Rattle.std.specs.Prelude.{Option, Some, None}
 use Rattle.words.specs.Words.{pick}
 use Rattle.framed.specs.declared.Value.{Value}
 use Rattle.framed.specs.Tree.{Base, Expression}
@@ -21,7 +22,6 @@ use Rattle.tables.specs.Fields.{link, expressions, instructions, instruction_kin
 use Rattle.program_entries.specs.Form as form
 use Rattle.heap.specs.Words.{self_held, program_held}
 use Rattle.heap.specs.Held.{heap_held, frames_held, texts_held}
-use Rattle.paths.specs.declared.Fetched.{Fetched}
 use Rattle.paths.specs.Paths.{fetched}
 use Rattle.trees.specs.Trees.{expression_tree, base_tree, path_list}
 use Rattle.trees.specs.Trees as trees
@@ -100,17 +100,17 @@ operation_open : (p l h t : List ℕ) (o a b : ℕ) → operation_end p l h t o 
 unfolding operation_end operation_result operand_value heap_held operated_end
 operation_open p l h t o a b = refl
 
-module _ (p l h t : List ℕ) (o a b : ℕ) (r : Fetched) (er : defined (fetched r) ≡ operand_value p h a) where
-  pub operation_left : r ≡ Fetched.Undefined → 31 ≡ operation_end p l h t o a b
+module _ (p l h t : List ℕ) (o a b : ℕ) (r : Option Value) (er : defined (fetched r) ≡ operand_value p h a) where
+  pub operation_left : r ≡ None → 31 ≡ operation_end p l h t o a b
   unfolding defined ◌>>=◌ end_of operated_end
   operation_left e = rw (operation_open p l h t o a b, ← er, e)
 
-  module _ (v : Value) (ev : r ≡ Fetched.Found v) (s : Fetched) (es : defined (fetched s) ≡ operand_value p h b) where
-    pub operation_right : s ≡ Fetched.Undefined → 31 ≡ operation_end p l h t o a b
+  module _ (v : Value) (ev : r ≡ Some v) (s : Option Value) (es : defined (fetched s) ≡ operand_value p h b) where
+    pub operation_right : s ≡ None → 31 ≡ operation_end p l h t o a b
     unfolding defined ◌>>=◌ end_of operated_end
     operation_right e = rw (operation_open p l h t o a b, ← er, ev, ← es, e)
 
-    pub operation_both : (w : Value) (n : ℕ) → s ≡ Fetched.Found w → n ≡ end_of (operated (constants_held p l) (texts_held h t) (operator_of o) v w) → n ≡ operation_end p l h t o a b
+    pub operation_both : (w : Value) (n : ℕ) → s ≡ Some w → n ≡ end_of (operated (constants_held p l) (texts_held h t) (operator_of o) v w) → n ≡ operation_end p l h t o a b
     unfolding defined ◌>>=◌ operated_end
     operation_both w n e en = rw (operation_open p l h t o a b, ← er, ev, ← es, e, en)
 

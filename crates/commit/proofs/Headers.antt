@@ -6,6 +6,7 @@ use native.Mathlib.Omega.{arith}
 use lib.ListN.{length}
 use lib.Dec.{leb}
 use mathlib.Core.Bool.{Bool, true, false}
+use Rattle.std.specs.Prelude.{Option, Some, None}
 use Rattle.words.specs.Words.{pick}
 use Rattle.words.proofs.Laws.{set_size}
 use Rattle.framed.specs.declared.Value.{Value}
@@ -13,10 +14,9 @@ use Rattle.framed.specs.Tree.{Code}
 use Rattle.framed.specs.Paths.{Path}
 use Rattle.framed.specs.Machine.{Result, gives, ends}
 use Rattle.tables.specs.Fields.{instructions}
-use Rattle.heap.specs.Words.{position, end_mark, set_self, set_program, set_position, slot_count_at, set_slot_value, add_slot_at, add_slot}
+use Rattle.heap.specs.Words.{set_self, set_program, set_position, slot_count_at, set_slot_value, add_slot_at, add_slot}
 use Rattle.heap.specs.Held.{slots_held}
 use Rattle.heap.proofs.Laws.{same_part, same_self, same_program, same_position, same_end_mark, set_self_local, set_program_local, set_position_local}
-use Rattle.paths.specs.declared.SlotFound.{SlotFound}
 use Rattle.paths.specs.Paths.{slot_from}
 use Rattle.puts.specs.Puts.{put_found, put_slot}
 use Rattle.bounded.specs.Check.{Target}
@@ -85,9 +85,9 @@ put_slot_size h f x v = go (slot_from (slots_held h f) x 0)
     added true = refl
     added false = simp set_size refl
 
-    go : (r : SlotFound) → length (put_found h f x v r) ≡ length h
-    go (SlotFound.At i) = simp set_size refl
-    go SlotFound.Missing = added (leb 16 (slot_count_at h f))
+    go : (r : Option ℕ) → length (put_found h f x v r) ≡ length h
+    go (Some i) = simp set_size refl
+    go None = added (leb 16 (slot_count_at h f))
 
 module _ (h t : List ℕ) (size : length h ≡ 16384) where
   pub put_store : (r : Result Target) (v : Value) → store_held (put_at h r v) t ≡ assign_at word_store r v (store_held h t)

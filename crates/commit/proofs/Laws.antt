@@ -6,6 +6,7 @@ use mathlib.Core.Bool.{Bool, true, false}
 use native.Mathlib.Omega.{arith}
 use lib.Dec.{eqb}
 use lib.ListN.{length}
+use Rattle.std.specs.Prelude.{Option, Some, None}
 use Rattle.framed.specs.declared.Value.{Value}
 use Rattle.framed.specs.Values.{truth}
 use Rattle.framed.specs.Tree.{Instruction, Code}
@@ -23,7 +24,6 @@ use Rattle.trees.proofs.Held.{one_level_held, show_held, jump_held, ifeq_held}
 use Rattle.heap.specs.Words.{self_held, program_held, position, set_self, set_program, set_position}
 use Rattle.heap.specs.Held.{frames_held}
 use Rattle.heap.specs.Closed.{ValueFits}
-use Rattle.paths.specs.declared.Fetched.{Fetched}
 use Rattle.puts.specs.declared.PutTarget.{PutTarget}
 use Rattle.paths.specs.Paths.{fetched, path_held}
 use Rattle.puts.specs.Puts.{targeted, target_along, put_slot}
@@ -46,14 +46,14 @@ use Rattle.commit.proofs.Headers.{kept_state, kept_stays, stays_both, self_stays
 
 -- ---- put
 
-module _ (p h : List ℕ) (root : Value) (j n : ℕ) (v : Value) (r : PutTarget) (er : targeted r ≡ target_along (frames_held h) root (path_held p j n)) where
-  pub put_nowhere : r ≡ PutTarget.NoRule → h ≡ put_along p h root j n v
+module _ (p h : List ℕ) (root : Value) (j n : ℕ) (v : Value) (r : Option PutTarget) (er : targeted r ≡ target_along (frames_held h) root (path_held p j n)) where
+  pub put_nowhere : r ≡ None → h ≡ put_along p h root j n v
   unfolding put_along put_at
   put_nowhere e = rw (← er, e)
 
-  pub put_somewhere : (f x : ℕ) (h' : List ℕ) → r ≡ PutTarget.At f x → h' ≡ put_slot h f x v → h' ≡ put_along p h root j n v
+  pub put_somewhere : (at : PutTarget) (h' : List ℕ) → r ≡ Some at → h' ≡ put_slot h at.frame at.name v → h' ≡ put_along p h root j n v
   unfolding put_along put_at
-  put_somewhere f x h' e eh = rw (← er, e) eh
+  put_somewhere at h' e eh = rw (← er, e) eh
 
 -- ---- root, set_root
 
@@ -199,12 +199,12 @@ module _ (p l h : List ℕ) (a c : ℕ) (can : CanJump p l h a c) where
   nothing : ((t : List ℕ) → state_of p h t ≡ commit_jump word_store (trees.program_held p l) (state_of p h t) (result t)) → Jumps p l h a c h
   nothing e = record { state = e; header = record { formed = λ m q o. o }; size = can.size }
 
-  module _ (r : Fetched) (er : defined (fetched r) ≡ operand_value p h a) where
-    pub jump_none : r ≡ Fetched.Undefined → Jumps p l h a c h
+  module _ (r : Option Value) (er : defined (fetched r) ≡ operand_value p h a) where
+    pub jump_none : r ≡ None → Jumps p l h a c h
     unfolding commit_jump M.◌>>=◌ defined
     jump_none e = nothing (λ t. rw (read t, ← er, e))
 
-    module _ (v : Value) (ev : r ≡ Fetched.Found v) where
+    module _ (v : Value) (ev : r ≡ Some v) where
       pub jump_no_code : ((k : ℕ) → v ≡ Value.Code k → ⊥) → Jumps p l h a c h
       unfolding commit_jump M.◌>>=◌ defined code_number
       jump_no_code o = nothing (λ t. rw (read t, ← er, ev) (go t v o))
@@ -216,12 +216,12 @@ module _ (p l h : List ℕ) (a c : ℕ) (can : CanJump p l h a c) where
           go t (Value.Code z) k = absurd (k z refl)
           go t (Value.Frame z) k = refl
 
-      module _ (k : ℕ) (ek : v ≡ Value.Code k) (q : Fetched) (eq : defined (fetched q) ≡ operand_value p h c) where
-        pub jump_second : q ≡ Fetched.Undefined → Jumps p l h a c h
+      module _ (k : ℕ) (ek : v ≡ Value.Code k) (q : Option Value) (eq : defined (fetched q) ≡ operand_value p h c) where
+        pub jump_second : q ≡ None → Jumps p l h a c h
         unfolding commit_jump M.◌>>=◌ defined code_number
         jump_second e = nothing (λ t. rw (read t, ← er, ev, ek, ← eq, e))
 
-        module _ (w : Value) (ew : q ≡ Fetched.Found w) where
+        module _ (w : Value) (ew : q ≡ Some w) where
           is_given : gives w ≡ operand_value p h c
           unfolding defined
           is_given = rw ew at eq

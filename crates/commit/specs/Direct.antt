@@ -1,6 +1,8 @@
 -- Document 01, "The endless machine", one step on an instruction that makes no frame and no text and shows nothing, over program words p,
 -- literal bytes l, heap words h and text bytes t: its end is that of `bounded`'s check, and what it does is the bounded machine's commit. Assumes nothing.
-use Rattle.std.specs.Prelude.{ℕ, suc, ◌<◌, ◌≡◌, List}
+use Rattle.std.specs.Prelude.{ℕ, suc, ◌<◌, ◌≡◌, List, Result, Ok, Err}
+use Rattle.framed.specs.declared.End.{End}
+use Rattle.framed.specs.Answers.{end_number}
 use Rattle.framed.specs.Machine.{frame_literals, join_signs, right_side}
 use Rattle.tables.specs.declared.InstructionEntry.{InstructionEntry}
 use Rattle.tables.specs.Entries.{instruction_at}
@@ -10,6 +12,7 @@ use Rattle.heap.specs.Words.{self_held, program_held, position}
 use Rattle.heap.specs.Held.{heap_held}
 use Rattle.wellformed.specs.WellFormed.{Formed}
 use Rattle.bounded.specs.Check.{check}
+use Rattle.commit.specs.declared.Done.{Done}
 use Rattle.commit.specs.Commit.{Commits}
 
 -- the memories are well-formed and instruction i is the next
@@ -58,8 +61,8 @@ module _ (p l h t : List ℕ) (i : ℕ) where
     pub why : MakesOrShows p i
     pub words : h' ≡ h
 
-  -- by the answer: 0 made, 255 left, else the end
-  pub record Does (r : ℕ) (h' : List ℕ) : Type 0 where
-    pub made : r ≡ 0 → IsMade h'
-    pub ended : (r ≡ 0 → ⊥) → (r ≡ 255 → ⊥) → IsEnded r h'
-    pub left : r ≡ 255 → IsLeft h'
+  -- by the answer
+  pub record Does (r : Result Done End) (h' : List ℕ) : Type 0 where
+    pub made : r ≡ Ok Done.Made → IsMade h'
+    pub ended : (e : End) → r ≡ Err e → IsEnded (end_number e) h'
+    pub left : r ≡ Ok Done.Left → IsLeft h'

@@ -10,16 +10,21 @@ ghost use Rattle.heap.specs.Words.{set_position};
 ghost use Rattle.tables.specs.Fields.{instruction_after};
 
 use framed::Value;
-use puts::PutTarget;
+
+// What became of an instruction that is done in one go: it is made; or it is left, as it makes something or shows.
+#[derive(Clone, Copy, PartialEq, Eq)]
+pub enum Done {
+    Made,
+    Left,
+}
 
 // Put along the n path names from j on; nothing where no rule applies.
 fn put(p: &[u32], h: &mut [u32], root: Value, j: u32, n: u32, v: Value)
     ensures { h.new ≡ put_along p.now h.old root j n v }
 {
-    let PutTarget::At(f, name) = puts::put_target(p, h, root, j, n) else {
-        return;
-    };
-    puts::put_slot(h, f, name, v);
+    if let Some(at) = puts::put_target(p, h, root, j, n) {
+        puts::put_slot(h, at.frame, at.name, v);
+    }
 }
 
 // Self where `own`, else the program.

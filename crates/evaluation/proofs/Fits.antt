@@ -3,7 +3,7 @@ use Prim.Native.Nat.{ℕ, ◌≤◌, ◌<◌}
 use mathlib.Core.Path.{◌≡◌, refl}
 use mathlib.Core.Bool.{Bool, true, false}
 use mathlib.Core.List.{List, [], ◌∷◌}
-use mathlib.Core.Option.{Option, none, some}
+use mathlib.Core.Option.{Option as Optional, none, some}
 use native.Mathlib.Omega.{arith}
 use native.Mathlib.Decide.{dec_le}
 use lib.IntN.{ℤ, pos}
@@ -11,6 +11,7 @@ use lib.Signed.{mag}
 use mir.Syntax.{w32}
 use mir.Val.{SFits, to_z}
 use borrow.Author.Tests.{ltb-true}
+use Rattle.std.specs.Prelude.{Option, Some, None}
 use Rattle.ints.specs.Ints.{int_of}
 use Rattle.ints.proofs.Laws.{int_fits}
 use Rattle.framed.specs.declared.Value.{Value}
@@ -30,7 +31,6 @@ use Rattle.heap.specs.Words.{self_held, program_held, frame_used, slot_value_at}
 use Rattle.heap.specs.Held.{slots_held, frames_held}
 use Rattle.heap.specs.Closed.{ValueFits}
 use Rattle.heap.proofs.Laws.{self_fits, program_fits, slot_fits}
-use Rattle.paths.specs.declared.SlotFound.{SlotFound}
 use Rattle.paths.specs.Paths.{slot_from}
 use Rattle.paths.proofs.Laws.{get_past, get_free, get_missing, get_found}
 use Rattle.operands.specs.Operands.{operand_value}
@@ -66,7 +66,7 @@ fits_bit false = fits_zero
 
 -- ---- Fetched from the words
 
-abbrev Fit : Option Value → Type 0
+abbrev Fit : Optional Value → Type 0
 Fit none = Unit
 Fit (some v) = ValueFits v
 
@@ -77,23 +77,23 @@ get_fit h x (Value.Text t) = tt
 get_fit h x (Value.Code k) = tt
 get_fit h x (Value.Frame f) = go (dec_le 256 f) (frame_used h f) refl (slot_from (slots_held h f) x 0) refl
   where
-    go : Dec (256 ≤ f) → (b : Bool) → b ≡ frame_used h f → (r : SlotFound) → r ≡ slot_from (slots_held h f) x 0 → Fit (get (frames_held h) (Value.Frame f) x)
+    go : Dec (256 ≤ f) → (b : Bool) → b ≡ frame_used h f → (r : Option ℕ) → r ≡ slot_from (slots_held h f) x 0 → Fit (get (frames_held h) (Value.Frame f) x)
     go (yes le) b eb r er = rw (← (get_past h x (Value.Frame f) f refl le)) tt
     go (no lt) false eb r er = rw (← (get_free h x (Value.Frame f) f refl (omega arith) false eb refl)) tt
-    go (no lt) true eb SlotFound.Missing er = rw (← (get_missing h x (Value.Frame f) f refl (omega arith) true eb refl SlotFound.Missing er refl)) tt
-    go (no lt) true eb (SlotFound.At i) er =
-        rw (← (get_found h x (Value.Frame f) f refl (omega arith) true eb refl (SlotFound.At i) er i (slot_value_at h f i) refl refl)) (slot_fits h f i)
+    go (no lt) true eb None er = rw (← (get_missing h x (Value.Frame f) f refl (omega arith) true eb refl None er refl)) tt
+    go (no lt) true eb (Some i) er =
+        rw (← (get_found h x (Value.Frame f) f refl (omega arith) true eb refl (Some i) er i (slot_value_at h f i) refl refl)) (slot_fits h f i)
 
 fetch_fit : (h ns : List ℕ) (v : Value) → ValueFits v → Fit (fetch (frames_held h) v ns)
 unfolding fetch F.◌>>=◌
 fetch_fit h [] v f = f
 fetch_fit h (n ∷ ns) v f = go (get (frames_held h) v n) (get_fit h n v) (λ w g. fetch_fit h ns w g)
   where
-    go : (o : Option Value) → Fit o → ((w : Value) → ValueFits w → Fit (fetch (frames_held h) w ns)) → Fit (F.◌>>=◌ o (λ w. fetch (frames_held h) w ns))
+    go : (o : Optional Value) → Fit o → ((w : Value) → ValueFits w → Fit (fetch (frames_held h) w ns)) → Fit (F.◌>>=◌ o (λ w. fetch (frames_held h) w ns))
     go none g k = tt
     go (some w) g k = k w g
 
-defined_fit : (o : Option Value) → Fit o → ValueFits (value_given (defined o))
+defined_fit : (o : Optional Value) → Fit o → ValueFits (value_given (defined o))
 unfolding value_given defined
 defined_fit none f = fits_zero
 defined_fit (some v) f = f

@@ -2,12 +2,13 @@
 use mathlib.Core.Path.{◌≡◌, refl, sym}
 use mathlib.Core.Bool.{Bool, true, false, ◌||◌, false≢true}
 use mathlib.Core.List.{List, [], ◌∷◌}
-use mathlib.Core.Option.{Option, none, some}
+use mathlib.Core.Option.{Option as Optional, none, some}
 use Prim.Native.Nat.{ℕ, ◌<◌}
 use native.Mathlib.Omega.{arith}
 use native.Mathlib.Decide.{dec_lt}
 use lib.Dec.{eqb}
 use borrow.Author.Tests.{eqb-true}
+use Rattle.std.specs.Prelude.{Option, Some, None}
 use Rattle.framed.specs.declared.Value.{Value}
 use Rattle.framed.specs.Common.{any, member}
 use Rattle.framed.specs.Tree.{Written}
@@ -17,7 +18,6 @@ use Rattle.tables.specs.Fields.{names}
 use Rattle.heap.specs.Words.{frame_used, slot_count_at}
 use Rattle.heap.specs.Held.{slot_held, slots_held, frames_held, heap_held}
 use Rattle.heap.specs.Closed.{FrameInUse}
-use Rattle.paths.specs.declared.SlotFound.{SlotFound}
 use Rattle.paths.specs.Paths.{slot_from}
 use Rattle.paths.proofs.Slots.{slot_hit}
 use Rattle.paths.proofs.Laws.{slots_length, slot_at, get_past, get_free, get_missing}
@@ -29,17 +29,17 @@ use Rattle.look.specs.Look.{answer, look_call, LackedIsUndefined}
 
 module _ (p h l t : List ℕ) (w : WellFormed p h l t) where
   -- no slot has the number after the last name
-  slot_lacked : (f : ℕ) → FrameInUse h f → slot_from (slots_held h f) (names p) 0 ≡ SlotFound.Missing
+  slot_lacked : (f : ℕ) → FrameInUse h f → slot_from (slots_held h f) (names p) 0 ≡ None
   unfolding slot_held limits
   slot_lacked f u = go (slot_from (slots_held h f) (names p) 0) refl
     where
-      go : (r : SlotFound) → r ≡ slot_from (slots_held h f) (names p) 0 → slot_from (slots_held h f) (names p) 0 ≡ SlotFound.Missing
-      go (SlotFound.At i) q =
-          let a = slot_hit (slots_held h f) (names p) (SlotFound.At i) q i refl in
+      go : (r : Option ℕ) → r ≡ slot_from (slots_held h f) (names p) 0 → slot_from (slots_held h f) (names p) 0 ≡ None
+      go (Some i) q =
+          let a = slot_hit (slots_held h f) (names p) (Some i) q i refl in
           let lt : i < slot_count_at h f = omega (arith, a.below, slots_length h f) in
           let e = rw (slot_at h f i (slot_held h f i) lt) at (a.name (slot_held h f i)) in
           absurd (omega (arith, e, ((w.state.frame f u).slot i lt).named))
-      go SlotFound.Missing q = sym q
+      go None q = sym q
 
   get_lacked : (v : Value) → get (frames_held h) v (names p) ≡ none
   unfolding get frame_of ◌>>=◌
@@ -50,7 +50,7 @@ module _ (p h l t : List ℕ) (w : WellFormed p h l t) where
     where
       inside : f < 256 → (b : Bool) → b ≡ frame_used h f → get (frames_held h) (Value.Frame f) (names p) ≡ none
       inside lt true e =
-          sym (get_missing h (names p) (Value.Frame f) f refl lt true e refl SlotFound.Missing (sym (slot_lacked f (record { small = lt; used = sym e }))) refl)
+          sym (get_missing h (names p) (Value.Frame f) f refl lt true e refl None (sym (slot_lacked f (record { small = lt; used = sym e }))) refl)
       inside lt false e = sym (get_free h (names p) (Value.Frame f) f refl lt false e refl)
 
       go : Dec (f < 256) → get (frames_held h) (Value.Frame f) (names p) ≡ none
@@ -62,7 +62,7 @@ module _ (p h l t : List ℕ) (w : WellFormed p h l t) where
   fetch_lacked [] e v = absurd (false≢true e)
   fetch_lacked (x ∷ ns) e v = go (eqb (names p) x) refl e (fetch_lacked ns)
     where
-      further : (o : Option Value) → ((u : Value) → fetch (frames_held h) u ns ≡ none) → ◌>>=◌ o (λ u. fetch (frames_held h) u ns) ≡ none
+      further : (o : Optional Value) → ((u : Value) → fetch (frames_held h) u ns ≡ none) → ◌>>=◌ o (λ u. fetch (frames_held h) u ns) ≡ none
       further none ih = refl
       further (some u) ih = ih u
 

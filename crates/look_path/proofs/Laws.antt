@@ -1,10 +1,11 @@
 -- One law for each way through the functions of this crate. Assumes nothing.
 use mathlib.Core.Path.{◌≡◌, refl, sym, ap, ◌∙◌}
 use mathlib.Core.List.{List, [], ◌∷◌}
-use mathlib.Core.Option.{Option, none, some}
+use mathlib.Core.Option.{Option as Optional, none, some}
 use Prim.Native.Nat.{ℕ, ◌-◌, ◌≤◌, ◌<◌}
 use native.Mathlib.Omega.{arith}
 use lib.ListN.{length}
+use Rattle.std.specs.Prelude.{Option, Some, None}
 use Rattle.framed.specs.declared.Value.{Value}
 use Rattle.framed.specs.Bytes.{class}
 use Rattle.framed.specs.Tokens.{Token, Fixed, tokens, prepend, next, read, skip, end}
@@ -26,7 +27,6 @@ use Rattle.token.proofs.Answers.{tokens_at_end, tokens_at_none, tokens_at_token,
 use Rattle.sweep.specs.Kinds.{kind_of}
 use Rattle.heap.specs.Words.{self_held, program_held}
 use Rattle.heap.specs.Held.{frames_held}
-use Rattle.paths.specs.declared.Fetched.{Fetched}
 use Rattle.paths.specs.Paths.{fetched}
 use Rattle.look_names.specs.Names.{names_held}
 use Rattle.look_path.specs.declared.Resolved.{Resolved}
@@ -36,20 +36,20 @@ use Rattle.look_path.proofs.Dots.{dots_none, dots_more, dots_no_dot, dots_dot_al
 
 -- ---- end_of_path, go_on
 
-pub path_found : (v : Fetched) (u : Value) → v ≡ Fetched.Found u → Resolved.Found u ≡ found (fetched v)
+pub path_found : (v : Option Value) (u : Value) → v ≡ Some u → Resolved.Found u ≡ found (fetched v)
 unfolding found
 path_found v u e = rw e
 
-pub path_undefined : (v : Fetched) → v ≡ Fetched.Undefined → Resolved.Undefined ≡ found (fetched v)
+pub path_undefined : (v : Option Value) → v ≡ None → Resolved.Undefined ≡ found (fetched v)
 unfolding found
 path_undefined v e = rw e
 
-module _ (table : List (List ℕ)) (frames : List Frame) (v : Fetched) (w : List ℕ) where
-  pub gone_undefined : v ≡ Fetched.Undefined → fetched Fetched.Undefined ≡ named_from table frames (fetched v) w
+module _ (table : List (List ℕ)) (frames : List Frame) (v : Option Value) (w : List ℕ) where
+  pub gone_undefined : v ≡ None → fetched None ≡ named_from table frames (fetched v) w
   unfolding named_from ◌>>=◌
   gone_undefined e = rw e
 
-  pub gone_on : (u : Value) (k : ℕ) (r : Fetched) → v ≡ Fetched.Found u → k ≡ number_in table w → fetched r ≡ get frames u k → fetched r ≡ named_from table frames (fetched v) w
+  pub gone_on : (u : Value) (k : ℕ) (r : Option Value) → v ≡ Some u → k ≡ number_in table w → fetched r ≡ get frames u k → fetched r ≡ named_from table frames (fetched v) w
   unfolding named_from ◌>>=◌
   gone_on u k r e ek er = rw (er, ek, e)
 
@@ -72,12 +72,12 @@ first table (Token.fixed f) ts = record { symbol = Symbol.fixed f; others = numb
 -- ---- Dots and names among tokens
 
 module _ (table : List (List ℕ)) where
-  no_dot : (t : Token) (o : Option (List Token)) → (token_kind t ≡ 7 → ⊥) → dotted_names table (prepend t o) ≡ none
+  no_dot : (t : Token) (o : Optional (List Token)) → (token_kind t ≡ 7 → ⊥) → dotted_names table (prepend t o) ≡ none
   unfolding dotted_names prepend
   no_dot t none f = refl
   no_dot t (some ts) f = let x = first table t ts in rw x.is (dots_no_dot x.symbol x.others (λ e. f (sym x.kind ∙ e)))
 
-  no_name : (t : Token) (o : Option (List Token)) → (token_kind t ≡ 25 → ⊥) → dotted_names table (prepend (Token.fixed Fixed.dot) (prepend t o)) ≡ none
+  no_name : (t : Token) (o : Optional (List Token)) → (token_kind t ≡ 25 → ⊥) → dotted_names table (prepend (Token.fixed Fixed.dot) (prepend t o)) ≡ none
   unfolding dotted_names prepend numbered
   no_name t none f = refl
   no_name t (some ts) f = let x = first table t ts in rw (numbered, x.is) (dots_no_name x.symbol x.others (λ e. f (sym x.kind ∙ e)))
@@ -87,22 +87,22 @@ module _ (table : List (List ℕ)) where
   dot_alone = dots_dot_alone
 
   -- the values that they lead to
-  step_on : (frames : List Frame) (v : Option Value) (w : List ℕ) (o : Option (List Token)) →
+  step_on : (frames : List Frame) (v : Optional Value) (w : List ℕ) (o : Optional (List Token)) →
       along frames v (dotted_names table (prepend (Token.fixed Fixed.dot) (prepend (Token.name w) o))) ≡ along frames (named_from table frames v w) (dotted_names table o)
   unfolding dotted_names prepend numbered along named_from fetch ◌>>=◌
   step_on frames v w none = refl
   step_on frames v w (some ts) = rw (dots_more (number_in table w) (numbered table 0 0 ts)) (go v (to_end (names (numbered table 0 0 ts))))
     where
-      go : (v : Option Value) (o : Option (List ℕ)) → along frames v (prepend (number_in table w) o) ≡ along frames (named_from table frames v w) o
+      go : (v : Optional Value) (o : Optional (List ℕ)) → along frames v (prepend (number_in table w) o) ≡ along frames (named_from table frames v w) o
       go v none = refl
       go none (some ns) = refl
       go (some u) (some ns) = refl
 
-  stop_here : (frames : List Frame) (v : Option Value) → along frames v (dotted_names table (some [])) ≡ found v
+  stop_here : (frames : List Frame) (v : Optional Value) → along frames v (dotted_names table (some [])) ≡ found v
   unfolding dotted_names numbered along fetch ◌>>=◌
   stop_here frames v = rw dots_none (go v)
     where
-      go : (v : Option Value) → found (◌>>=◌ v (λ u. fetch frames u [])) ≡ found v
+      go : (v : Optional Value) → found (◌>>=◌ v (λ u. fetch frames u [])) ≡ found v
       go none = refl
       go (some u) = refl
 
@@ -152,10 +152,10 @@ module _ (s : List ℕ) (at : ℕ) (t : TokenRead) (f : TokenAt class s at t) wh
 
 -- ---- follow: what is left leads from here where all of it leads
 
-pub record Following (p h s : List ℕ) (from : ℕ) (v₀ v : Fetched) (at : ℕ) : Type 0 where
+pub record Following (p h s : List ℕ) (from : ℕ) (v₀ v : Option Value) (at : ℕ) : Type 0 where
   pub same : along (frames_held h) (fetched v) (dotted_names (names_held p) (tokens class (rest s at))) ≡ along (frames_held h) (fetched v₀) (dotted_names (names_held p) (tokens class (rest s from)))
 
-pub follow_start : (p h s : List ℕ) (from : ℕ) (v : Fetched) → Following p h s from v v from
+pub follow_start : (p h s : List ℕ) (from : ℕ) (v : Option Value) → Following p h s from v v from
 follow_start p h s from v = record { same = refl }
 
 record NameHere (s : List ℕ) (at a e : ℕ) : Type 0 where
@@ -184,14 +184,14 @@ other_inside s at _ (DottedAt.name l m g) q = let z : ◌≡◌ {A = ℕ} 0 1 = 
 pub follow_less : (s : List ℕ) (at : ℕ) (x : Dotted) → DottedAt s at x → (a e : ℕ) → x ≡ Dotted.Name a e → at < length s → length s - e < length s - at
 follow_less s at x f a e q l = let n = name_inside s at x f a e q in omega (arith, n.more)
 
-module _ (p h s : List ℕ) (from : ℕ) (v : Fetched) (at : ℕ) (x : Dotted) (f : DottedAt s at x) where
-  pub follow_again : (v₀ : Fetched) → Following p h s from v₀ v at → (a e : ℕ) (w : List ℕ) (u : Fetched) →
+module _ (p h s : List ℕ) (from : ℕ) (v : Option Value) (at : ℕ) (x : Dotted) (f : DottedAt s at x) where
+  pub follow_again : (v₀ : Option Value) → Following p h s from v₀ v at → (a e : ℕ) (w : List ℕ) (u : Option Value) →
       x ≡ Dotted.Name a e → w ≡ part s a e → fetched u ≡ named_from (names_held p) (frames_held h) (fetched v) w → Following p h s from v₀ u e
   follow_again v₀ i a e w u q ew eu =
       let n = name_inside s at x f a e q in
       record { same = rw (eu, ew) (sym (step_on (names_held p) (frames_held h) (fetched v) (part s a e) (tokens class (rest s e))) ∙ (rw n.is at i.same)) }
 
-module _ (p h s : List ℕ) (from : ℕ) (root : Value) (v : Fetched) (at : ℕ) (i : Following p h s from (Fetched.Found root) v at) where
+module _ (p h s : List ℕ) (from : ℕ) (root : Value) (v : Option Value) (at : ℕ) (i : Following p h s from (Some root) v at) where
   stop : (r : Resolved) → r ≡ found (fetched v) → tokens class (rest s at) ≡ some [] → r ≡ along (frames_held h) (some root) (dotted_names (names_held p) (tokens class (rest s from)))
   stop r er e = er ∙ sym (stop_here (names_held p) (frames_held h) (fetched v)) ∙ (rw e at i.same)
 
@@ -213,28 +213,28 @@ module _ (p h s : List ℕ) (from : ℕ) (root : Value) (v : Fetched) (at : ℕ)
 -- ---- resolve
 
 -- the path behind its first token
-reach_root : (s : State) (o : Option (List ℕ)) → reached s (with_root Written.self o) ≡ along s.heap.frames (some s.self) o
+reach_root : (s : State) (o : Optional (List ℕ)) → reached s (with_root Written.self o) ≡ along s.heap.frames (some s.self) o
 unfolding with_root reached along look_from ◌>>=◌
 reach_root s none = refl
 reach_root s (some ns) = refl
 
-reach_program : (s : State) (o : Option (List ℕ)) → reached s (with_root (Written.up 0) o) ≡ along s.heap.frames (some s.program) o
+reach_program : (s : State) (o : Optional (List ℕ)) → reached s (with_root (Written.up 0) o) ≡ along s.heap.frames (some s.program) o
 unfolding with_root reached along look_from ◌>>=◌
 reach_program s none = refl
 reach_program s (some ns) = refl
 
 module _ (q : Program) (s : State) where
-  from_self : (o : Option (List Token)) → reached s (read_path q (prepend (Token.fixed Fixed.self) o)) ≡ along s.heap.frames (some s.self) (dotted_names q.names o)
+  from_self : (o : Optional (List Token)) → reached s (read_path q (prepend (Token.fixed Fixed.self) o)) ≡ along s.heap.frames (some s.self) (dotted_names q.names o)
   unfolding read_path prepend numbered dotted_names reached along
   from_self none = refl
   from_self (some ts) = rw (numbered, path_self (numbered q.names 0 0 ts)) (reach_root s (to_end (names (numbered q.names 0 0 ts))))
 
-  from_program : (o : Option (List Token)) → reached s (read_path q (prepend (Token.fixed Fixed.up) o)) ≡ along s.heap.frames (some s.program) (dotted_names q.names o)
+  from_program : (o : Optional (List Token)) → reached s (read_path q (prepend (Token.fixed Fixed.up) o)) ≡ along s.heap.frames (some s.program) (dotted_names q.names o)
   unfolding read_path prepend numbered dotted_names reached along
   from_program none = refl
   from_program (some ts) = rw (numbered, path_up (numbered q.names 0 0 ts)) (reach_program s (to_end (names (numbered q.names 0 0 ts))))
 
-  from_other : (t : Token) (o : Option (List Token)) → (token_kind t ≡ 1 → ⊥) → (token_kind t ≡ 8 → ⊥) → Resolved.NotPath ≡ reached s (read_path q (prepend t o))
+  from_other : (t : Token) (o : Optional (List Token)) → (token_kind t ≡ 1 → ⊥) → (token_kind t ≡ 8 → ⊥) → Resolved.NotPath ≡ reached s (read_path q (prepend t o))
   unfolding read_path prepend reached
   from_other t none f g = refl
   from_other t (some ts) f g = let x = first q.names t ts in rw (x.is, path_other x.symbol x.others (λ e. f (sym x.kind ∙ e)) (λ e. g (sym x.kind ∙ e)))
@@ -249,8 +249,8 @@ module _ (p h s : List ℕ) (t : TokenRead) (f : TokenAt class s 0 t) where
   resolve_none o = record { is = λ q st a b c d. go t f o q st }
     where
       go : (t : TokenRead) → TokenAt class s 0 t → ((k : ℕ) (n : ℕ) (i : ℕ) (j : ℕ) → t ≡ TokenRead.Token k n i j → ⊥) → (q : Program) (st : State) → Resolved.NotPath ≡ resolved q st s
-      go TokenRead.End f o q st = from_nothing q st ∙ ap (λ (x : Option (List Token)). reached st (read_path q x)) (sym (tokens_at_end class s 0 TokenRead.End f refl))
-      go TokenRead.NoToken f o q st = ap (λ (x : Option (List Token)). reached st (read_path q x)) (sym (tokens_at_none class s 0 TokenRead.NoToken f refl))
+      go TokenRead.End f o q st = from_nothing q st ∙ ap (λ (x : Optional (List Token)). reached st (read_path q x)) (sym (tokens_at_end class s 0 TokenRead.End f refl))
+      go TokenRead.NoToken f o q st = ap (λ (x : Optional (List Token)). reached st (read_path q x)) (sym (tokens_at_none class s 0 TokenRead.NoToken f refl))
       go (TokenRead.Token k a e w) f o q st = absurd (o k a e w refl)
 
   module _ (k a e w : ℕ) (g : t ≡ TokenRead.Token k a e w) where

@@ -12,7 +12,6 @@ ghost use Rattle.look_names.specs.Names.{names_held};
 ghost use Rattle.look_path.specs.Resolve.{NameAt, DottedAt, dotted_names, named_from, found, along, Resolves};
 
 use framed::Value;
-use paths::Fetched;
 use token::TokenRead;
 
 // What a path text leads to: a value, or that Fetch is undefined; or that the text is not such a path.
@@ -61,21 +60,21 @@ fn dotted_name(s: &[u8], at: usize) -> Dotted
 }
 
 // One name further, from a value that may be undefined already.
-fn go_on(p: &[u32], h: &[u32], v: Fetched, w: &[u8]) -> Fetched
+fn go_on(p: &[u32], h: &[u32], v: Option<Value>, w: &[u8]) -> Option<Value>
     ensures { fetched result ≡ named_from (names_held p.now) (frames_held h.now) (fetched v) w.now }
 {
-    let Fetched::Found(u) = v else {
-        return Fetched::Undefined;
+    let Some(u) = v else {
+        return None;
     };
     paths::get(h, u, look_names::name_number(p, w))
 }
 
-fn end_of_path(v: Fetched) -> Resolved
+fn end_of_path(v: Option<Value>) -> Resolved
     ensures { result ≡ found (fetched v) }
 {
     match v {
-        Fetched::Found(u) => Resolved::Found(u),
-        Fetched::Undefined => Resolved::Undefined,
+        Some(u) => Resolved::Found(u),
+        None => Resolved::Undefined,
     }
 }
 
@@ -83,7 +82,7 @@ fn end_of_path(v: Fetched) -> Resolved
 fn follow(p: &[u32], h: &[u32], s: &[u8], from: usize, root: Value) -> Resolved
     ensures { result ≡ along (frames_held h.now) (some root) (dotted_names (names_held p.now) (tokens class (rest s.now from))) }
 {
-    let mut v = Fetched::Found(root);
+    let mut v = Some(root);
     let mut at = from;
     while at < s.len() {
         match dotted_name(s, at) {

@@ -2,25 +2,23 @@
 use Prim.Native.Nat.{ℕ, ◌+◌, ◌*◌, ◌≤◌}
 use mathlib.Core.Path.{◌≡◌, refl, ◌∙◌, ap}
 use mathlib.Core.Bool.{Bool, true, false}
-use mathlib.Core.List.{List, []}
+use mathlib.Core.List.{List}
 use native.Mathlib.Omega.{arith}
 use lib.IntN.{ℤ, pos}
 use lib.ListN.{length, take}
 use borrow.Author.Tests.{le-ltb}
-use Rattle.std.specs.Prelude.{Ok, Err, Result as Checked}
-use Rattle.framed.specs.declared.End.{End}
+use Rattle.std.specs.Prelude.{Option, Some, None, Ok, Err, unwrap_or, Result as Checked}
 use Rattle.framed.specs.declared.Value.{Value}
 use Rattle.framed.specs.declared.Text.{Text}
+use Rattle.framed.specs.declared.End.{End}
 use Rattle.framed.specs.Values.{join_bytes, truth, bit}
 use Rattle.framed.specs.Machine as M
 use Rattle.framed.specs.Machine.{Result, gives, defined, is_join}
 use Rattle.tables.specs.declared.ExpressionEntry.{ExpressionEntry}
 use Rattle.tables.specs.Entries.{expression_at}
-use Rattle.tables.specs.Fields.{literals}
 use Rattle.heap.specs.Words.{text_length, take_text}
 use Rattle.heap.specs.Held.{texts_held}
 use Rattle.allocation.specs.Allocation.{next_text}
-use Rattle.paths.specs.declared.Fetched.{Fetched}
 use Rattle.paths.specs.Paths.{fetched}
 use Rattle.texts.specs.Literals.{literals_held}
 use Rattle.texts.specs.Texts.{Readable}
@@ -43,14 +41,14 @@ use Rattle.producing.proofs.Leaves.{leaves_none, text_store, text_next, text_lea
 
 -- ---- given, read
 
-module _ (p h : List ℕ) (x : ℕ) (r : Fetched) (er : defined (fetched r) ≡ operand_value p h x) where
-  pub given_none : r ≡ Fetched.Undefined → Value.Int (pos 0) ≡ value_given (operand_value p h x)
-  unfolding value_given defined
-  given_none e = rw (← er, e)
+pub given_or : (p h : List ℕ) (x : ℕ) (r : Option Value) → defined (fetched r) ≡ operand_value p h x → unwrap_or r (Value.Int (pos 0)) ≡ value_given (operand_value p h x)
+unfolding value_given defined
+given_or p h x None er = rw (← er)
+given_or p h x (Some v) er = rw (← er)
 
-  pub given_some : (v : Value) → r ≡ Fetched.Found v → v ≡ value_given (operand_value p h x)
-  unfolding value_given defined
-  given_some v e = rw (← er, e)
+pub given_some : (p h : List ℕ) (x : ℕ) (r : Option Value) → defined (fetched r) ≡ operand_value p h x → (v : Value) → r ≡ Some v → v ≡ value_given (operand_value p h x)
+unfolding value_given defined
+given_some p h x r er v e = rw (← er, e)
 
 module _ (p h : List ℕ) (x : ℕ) (e : ExpressionEntry) (ee : e ≡ expression_at p x) where
   pub read_base : ((k : ℕ) → e ≡ ExpressionEntry.Not k → ⊥) → (v : Value) → v ≡ value_given (operand_value p h x) → v ≡ read_value p h x
@@ -182,19 +180,19 @@ module _ (p l h t : List ℕ) (k : ℕ) (v w : Value) (can : CanProduce p l h t 
 
 -- ---- operation
 
-module _ (p l h t : List ℕ) (k a b : ℕ) (can : CanProduce p l h t k) (r : Fetched) (er : defined (fetched r) ≡ operand_value p h a) where
+module _ (p l h t : List ℕ) (k a b : ℕ) (can : CanProduce p l h t k) (r : Option Value) (er : defined (fetched r) ≡ operand_value p h a) where
   stops : produce word_store (operation_held p l h t k a b) (store_held h t) ≡ made (Value.Int (pos 0)) h t → Operates p l h t k a b (Value.Int (pos 0)) h t
   stops e = record { produced = e; leaves = leaves_none 0 (is_join (operator_of k)) can.writable.sized can.writable.text_size }
 
-  pub operation_first : r ≡ Fetched.Undefined → Operates p l h t k a b (Value.Int (pos 0)) h t
+  pub operation_first : r ≡ None → Operates p l h t k a b (Value.Int (pos 0)) h t
   unfolding operation_held produce defined M.◌>>=◌
   operation_first e = stops (rw (← er, e))
 
-  module _ (v : Value) (ev : r ≡ Fetched.Found v) (q : Fetched) (eq : defined (fetched q) ≡ operand_value p h b) where
-    pub operation_second : q ≡ Fetched.Undefined → Operates p l h t k a b (Value.Int (pos 0)) h t
+  module _ (v : Value) (ev : r ≡ Some v) (q : Option Value) (eq : defined (fetched q) ≡ operand_value p h b) where
+    pub operation_second : q ≡ None → Operates p l h t k a b (Value.Int (pos 0)) h t
     unfolding operation_held produce defined M.◌>>=◌
     operation_second e = stops (rw (← er, ev, ← eq, e))
 
-    pub operation_both : (w u : Value) (h' t' : List ℕ) → q ≡ Fetched.Found w → Produces p l h t k v w u h' t' → Operates p l h t k a b u h' t'
+    pub operation_both : (w u : Value) (h' t' : List ℕ) → q ≡ Some w → Produces p l h t k v w u h' t' → Operates p l h t k a b u h' t'
     unfolding operation_held defined M.◌>>=◌
     operation_both w u h' t' ew m = record { produced = rw (← er, ev, ← eq, ew) m.produced; leaves = m.leaves }

@@ -9,17 +9,13 @@ ghost use Rattle.producing.specs.Producing.{read_value, MakesText, CanJoin, Join
 
 use framed::{Text, Value};
 use operators::Operated;
-use paths::Fetched;
 use tables::ExpressionEntry;
 
 // The value of an expression read as a base.
 pub fn given(p: &[u32], h: &[u32], x: u32) -> Value
     ensures { result ≡ value_given (operand_value p.now h.now x) }
 {
-    let Fetched::Found(v) = operands::operand(p, h, x) else {
-        return Value::Int(0);
-    };
-    v
+    operands::operand(p, h, x).unwrap_or(Value::Int(0))
 }
 
 // The value of an expression that makes nothing: `!` of a base, or a base.
@@ -95,10 +91,10 @@ pub fn operation(
     requires texts_full { TextsFull h.old low }
     ensures { Operates p.now l.now h.old t.old kind a b result h.new t.new }
 {
-    let Fetched::Found(v) = operands::operand(p, h, a) else {
+    let Some(v) = operands::operand(p, h, a) else {
         return Value::Int(0);
     };
-    let Fetched::Found(w) = operands::operand(p, h, b) else {
+    let Some(w) = operands::operand(p, h, b) else {
         return Value::Int(0);
     };
     produce(p, l, h, t, kind, v, w, low)

@@ -1,8 +1,8 @@
 -- What the value that an expression gives, or its end, says of the bounded machine. Assumes nothing.
-use Prim.Native.Nat.{ℕ, ◌≤◌, ◌<◌}
-use mathlib.Core.Path.{◌≡◌, refl, ◌∙◌, sym, subst}
+use Prim.Native.Nat.{ℕ, ◌<◌}
+use mathlib.Core.Path.{◌≡◌, refl, ◌∙◌, sym}
 use mathlib.Core.Bool.{Bool, true, false, not}
-use mathlib.Core.List.{List, []}
+use mathlib.Core.List.{List}
 use native.Mathlib.Omega.{arith}
 use native.Mathlib.Decide.{ℕ_discrete}
 use lib.IntN.{ℤ, ◌+ℤ◌, ◌-ℤ◌, ◌*ℤ◌}
@@ -11,7 +11,7 @@ use lib.Dec.{eqb, ltb}
 use borrow.Author.Tests.{eq-eqb, ne_eqb}
 use Rattle.words.specs.Words.{pick}
 use Rattle.framed.specs.declared.Value.{Value}
-use Rattle.framed.specs.Values.{Heap, truth, bit}
+use Rattle.framed.specs.Values.{truth, bit}
 use Rattle.framed.specs.Equality.{Constants}
 use Rattle.framed.specs.Common.{when◌then◌else◌}
 use Rattle.framed.specs.Tokens.{Operator, in_range}
@@ -27,8 +27,6 @@ use Rattle.heap.specs.Held.{texts_held, heap_held}
 use Rattle.bounded.specs.Operations.{Product, number, text, ranged, flag, operated}
 use Rattle.bounded.specs.Check.{end_of, operation_result}
 use Rattle.bounded.specs.Bounded.{value_given, produce}
-use Rattle.bounded.proofs.Operations.{keep, operate_is}
-use Rattle.bounded.proofs.UnboundedRuns.{Within, within_bind, operate_within}
 use Rattle.operands.specs.Operands.{operand_value}
 use Rattle.program_equality.specs.Agreement.{constants_held}
 use Rattle.operators.specs.Operators.{arithmetic_of, operator_of}
@@ -39,28 +37,7 @@ use Rattle.producing.proofs.Leaves.{leaves_none}
 use Rattle.producing.proofs.Laws.{readable_from}
 use Rattle.evaluation.specs.Evaluation.{CanEvaluate, Evaluates}
 use Rattle.evaluation.proofs.Simple.{read_made, operation_frames, operation_signs, operation_made}
-use Rattle.commit.proofs.Direct.{operand_within}
-use Rattle.step_assign.specs.declared.Given.{Given}
-use Rattle.step_assign.specs.Assign.{of_base, of_not, of_product, operation_given, entry_given, expression_given}
-
--- ---- An end is 31 to 35
-
-operated_within : (cs : Constants) (made : List (List ℕ)) (o : Operator) (v w : Value) → Within (operated cs made o v w)
-unfolding keep
-operated_within cs made o v w = go (operated cs made o v w) (subst Within (operate_is cs o v w none) (operate_within cs o v w none))
-  where
-    none : Heap
-    none = record { frames = []; texts = made }
-
-    go : (r : Result Product) → Within (keep r none) → Within r
-    go (gives x) k = tt
-    go (ends e) k = k
-
-operation_within : (p l h t : List ℕ) (k a b : ℕ) → Within (operation_held p l h t k a b)
-unfolding operation_held
-operation_within p l h t k a b =
-    within_bind (operand_value p h a) _ (operand_within p h a) (λ v.
-    within_bind (operand_value p h b) _ (operand_within p h b) (λ w. operated_within (constants_held p l) (texts_held h t) (operator_of k) v w))
+use Rattle.step_assign.specs.Assign.{Given, of_base, of_not, of_product, operation_given, entry_given, expression_given}
 
 -- ---- Only kind 12 makes a text
 
@@ -148,12 +125,11 @@ module _ (p l h t : List ℕ) (x : ℕ) where
   pub record GivesEnd (e : ℕ) : Type 0 where
     pub still : Still p x
     pub end : e ≡ expression_end p l h t x
-    pub number : (31 ≤ e) × (e ≤ 35)
 
   abbrev pub Gives : Given → Type 0
-  Gives (Given.Value v) = GivesValue v
-  Gives (Given.Ended e) = GivesEnd e
-  Gives Given.Makes = MakesSome p x
+  Gives (Given.value v) = GivesValue v
+  Gives (Given.ended e) = GivesEnd e
+  Gives Given.makes = MakesSome p x
 
   module _ (w : Writable p l h t) (there : x < expressions p) where
     checks : ChecksExpression p l h t x
@@ -168,20 +144,20 @@ module _ (p l h t : List ℕ) (x : ℕ) where
     -- a base
     plain : Still p x → end_of (operand_value p h x) ≡ expression_end p l h t x → Evaluates p l h t x (value_given (operand_value p h x)) h t → Gives (of_base (operand_value p h x))
     unfolding of_base end_of value_given
-    plain s q m = go (operand_value p h x) (operand_within p h x) q m
+    plain s q m = go (operand_value p h x) q m
       where
-        go : (o : Result Value) → Within o → end_of o ≡ expression_end p l h t x → Evaluates p l h t x (value_given o) h t → Gives (of_base o)
-        go (gives v) k q m = record { still = s; end = q; evaluates = m }
-        go (ends e) k q m = record { still = s; end = q; number = k }
+        go : (o : Result Value) → end_of o ≡ expression_end p l h t x → Evaluates p l h t x (value_given o) h t → Gives (of_base o)
+        go (gives v) q m = record { still = s; end = q; evaluates = m }
+        go (ends e) q m = record { still = s; end = q }
 
     -- `!` of one
     negated : (a : ℕ) → Still p x → end_of (operand_value p h a) ≡ expression_end p l h t x → Evaluates p l h t x (bit (not (truth (value_given (operand_value p h a))))) h t → Gives (of_not (operand_value p h a))
     unfolding of_not end_of value_given
-    negated a s q m = go (operand_value p h a) (operand_within p h a) q m
+    negated a s q m = go (operand_value p h a) q m
       where
-        go : (o : Result Value) → Within o → end_of o ≡ expression_end p l h t x → Evaluates p l h t x (bit (not (truth (value_given o)))) h t → Gives (of_not o)
-        go (gives v) k q m = record { still = s; end = q; evaluates = m }
-        go (ends e) k q m = record { still = s; end = q; number = k }
+        go : (o : Result Value) → end_of o ≡ expression_end p l h t x → Evaluates p l h t x (bit (not (truth (value_given o)))) h t → Gives (of_not o)
+        go (gives v) q m = record { still = s; end = q; evaluates = m }
+        go (ends e) q m = record { still = s; end = q }
 
     -- an operator
     module _ (few : HasRoom h 0 0) (k a b : ℕ) (at : ExpressionEntry.Operate k a b ≡ expression_at p x) (ne : k ≡ 12 → ⊥) where
@@ -200,25 +176,25 @@ module _ (p l h t : List ℕ) (x : ℕ) where
 
       operated_gives : Gives (of_product (operation_held p l h t k a b))
       unfolding of_product end_of produce
-      operated_gives = go (operation_held p l h t k a b) refl (operation_within p l h t k a b) (operation_no_text p l h t k a b ne) end_is
+      operated_gives = go (operation_held p l h t k a b) refl (operation_no_text p l h t k a b ne) end_is
         where
-          go : (o : Result Product) → operation_held p l h t k a b ≡ o → Within o → NoText o → end_of o ≡ expression_end p l h t x → Gives (of_product o)
-          go (gives (number z)) eo u nt q = record {
+          go : (o : Result Product) → operation_held p l h t k a b ≡ o → NoText o → end_of o ≡ expression_end p l h t x → Gives (of_product o)
+          go (gives (number z)) eo nt q = record {
             still = still_operation;
             end = q;
             evaluates =
                 operation_made p l h t x can k a b (sym at) (Value.Int z) h t
                 (record { produced = rw eo; leaves = leaves_none 0 (is_join (operator_of k)) w.sized w.text_size });
           }
-          go (gives (text bs)) eo u nt q = absurd nt
-          go (ends e) eo u nt q = record { still = still_operation; end = q; number = u }
+          go (gives (text bs)) eo nt q = absurd nt
+          go (ends e) eo nt q = record { still = still_operation; end = q }
 
     module _ (few : HasRoom h 0 0) where
       operation_gives : (k a b : ℕ) → ExpressionEntry.Operate k a b ≡ expression_at p x → Gives (operation_given p l h t k a b)
       unfolding operation_given
       operation_gives k a b at = go (ℕ_discrete k 12)
         where
-          go : Dec (k ≡ 12) → Gives (pick (eqb k 12) Given.Makes (of_product (operation_held p l h t k a b)))
+          go : Dec (k ≡ 12) → Gives (pick (eqb k 12) Given.makes (of_product (operation_held p l h t k a b)))
           go (yes e) = rw (eq-eqb k 12 e) (a_text (rw (operation_signs p l w.program x there k a b (sym at), e, join_sign) (omega arith)))
           go (no ne) = rw (ne_eqb k 12 ne) (operated_gives few k a b at ne)
 

@@ -2,13 +2,13 @@
 use Prim.Native.Nat.{ℕ, ◌+◌, ◌/◌, ◌%◌, ◌≤◌, ◌<◌}
 use mathlib.Core.Path.{◌≡◌, refl, ◌∙◌, ap, sym}
 use mathlib.Core.Bool.{Bool, true, false, true≢false}
-use mathlib.Core.List.{List, []}
+use mathlib.Core.List.{List}
 use native.Mathlib.Omega.{arith}
 use native.Mathlib.Decide.{dec_lt}
 use lib.Dec.{eqb}
 use lib.ListN.{length, take, get_elem?}
 use borrow.Author.Tests.{eqb-true, le-leb, lt-leb}
-use Rattle.std.specs.Prelude.{Ok}
+use Rattle.std.specs.Prelude.{Option, Some, None, Ok}
 use Rattle.framed.specs.declared.Value.{Value}
 use Rattle.framed.specs.Values.{join_bytes}
 use Rattle.framed.specs.Machine.{defined, is_join, right_side}
@@ -22,9 +22,8 @@ use Rattle.heap.specs.Held.{frames_held, texts_held, texts_in_use}
 use Rattle.heap.proofs.Held.{take_text_frames}
 use Rattle.allocation.specs.Allocation.{next_text}
 use Rattle.allocation.proofs.Laws.{next_text_below}
-use Rattle.paths.specs.declared.Fetched.{Fetched}
-use Rattle.paths.specs.Paths.{fetched, path_held}
 use Rattle.puts.specs.declared.PutTarget.{PutTarget}
+use Rattle.paths.specs.Paths.{fetched, path_held}
 use Rattle.puts.specs.Puts.{targeted, target_along, put_slot}
 use Rattle.puts.proofs.Laws.{put_end_none, put_end_at}
 use Rattle.texts.specs.Literals.{literals_held}
@@ -124,23 +123,23 @@ module _ (p l h t : List ℕ) (i : ℕ) (can : CanAssignJoin p l h t i) where
 -- ---- assign_join
 
 module _ (p l h t : List ℕ) (i : ℕ) (can : CanAssignJoin p l h t i) (x : ℕ) (ex : x ≡ instruction_c p i) (a : ℕ) (ea : a ≡ expression_a p x)
-    (r : Fetched) (er : defined (fetched r) ≡ operand_value p h a) where
+    (r : Option Value) (er : defined (fetched r) ≡ operand_value p h a) where
   left : defined (fetched r) ≡ operand_value p h (expression_a p (instruction_c p i))
   left = rw (← ex, ← ea) er
 
-  join_first : r ≡ Fetched.Undefined → JoinsOnce p l h t i 31 h t
+  join_first : r ≡ None → JoinsOnce p l h t i 31 h t
   join_first e = value_ended p l h t i can 31 (checking.operation_left p l h t 12 (expression_a p (instruction_c p i)) (expression_b p (instruction_c p i)) r left e) (λ z. omega arith)
 
-  module _ (v : Value) (ev : r ≡ Fetched.Found v) (b : ℕ) (eb : b ≡ expression_b p x) (q : Fetched) (eq : defined (fetched q) ≡ operand_value p h b) where
+  module _ (v : Value) (ev : r ≡ Some v) (b : ℕ) (eb : b ≡ expression_b p x) (q : Option Value) (eq : defined (fetched q) ≡ operand_value p h b) where
     right : defined (fetched q) ≡ operand_value p h (expression_b p (instruction_c p i))
     right = rw (← ex, ← eb) eq
 
-    join_second : q ≡ Fetched.Undefined → JoinsOnce p l h t i 31 h t
+    join_second : q ≡ None → JoinsOnce p l h t i 31 h t
     join_second e =
         value_ended p l h t i can 31
         (checking.operation_right p l h t 12 (expression_a p (instruction_c p i)) (expression_b p (instruction_c p i)) r left v ev q right e) (λ z. omega arith)
 
-    join_on : (w : Value) → q ≡ Fetched.Found w → JoinsValues p l h t i v w
+    join_on : (w : Value) → q ≡ Some w → JoinsValues p l h t i v w
     unfolding defined
     join_on w ew = record { can = can; first = rw ev at left; second = rw ew at right }
 
@@ -148,17 +147,17 @@ module _ (p l h t : List ℕ) (i : ℕ) (can : CanAssignJoin p l h t i) (x : ℕ
 module _ (p l h t : List ℕ) (i : ℕ) (can : CanAssignJoin p l h t i) (x : ℕ) (ex : x ≡ instruction_c p i) (a : ℕ) (ea : a ≡ expression_a p x)
     (m : ℕ) (em : defined (fetched (unpacked m)) ≡ operand_value p h a) where
   pub number_first : m ≡ 5 → JoinsOnce p l h t i 31 h t
-  number_first e = join_first p l h t i can x ex a ea Fetched.Undefined (number_none p h a m em e) refl
+  number_first e = join_first p l h t i can x ex a ea None (number_none p h a m em e) refl
 
   module _ (some : m ≡ 5 → ⊥) (b : ℕ) (eb : b ≡ expression_b p x) (n : ℕ) (en : defined (fetched (unpacked n)) ≡ operand_value p h b) where
     pub number_second : n ≡ 5 → JoinsOnce p l h t i 31 h t
     number_second e =
         let v = value_of (m % 8) (m / 8 % 4294967296) in
-        join_second p l h t i can x ex a ea (Fetched.Found v) (number_some p h a m em some v refl) v refl b eb Fetched.Undefined (number_none p h b n en e) refl
+        join_second p l h t i can x ex a ea (Some v) (number_some p h a m em some v refl) v refl b eb None (number_none p h b n en e) refl
 
     pub number_on : (n ≡ 5 → ⊥) → (v w : Value) → v ≡ value_of (m % 8) (m / 8 % 4294967296) → w ≡ value_of (n % 8) (n / 8 % 4294967296) → JoinsValues p l h t i v w
     number_on both v w ev ew =
-        join_on p l h t i can x ex a ea (Fetched.Found v) (number_some p h a m em some v ev) v refl b eb (Fetched.Found w) (number_some p h b n en both w ew) w refl
+        join_on p l h t i can x ex a ea (Some v) (number_some p h a m em some v ev) v refl b eb (Some w) (number_some p h b n en both w ew) w refl
 
 -- ---- join_values
 
@@ -167,7 +166,7 @@ module _ (p l h t : List ℕ) (i : ℕ) (v w : Value) (on : JoinsValues p l h t 
   unfolding defined
   met e ee =
       checking.operation_both p l h t 12 (expression_a p (instruction_c p i)) (expression_b p (instruction_c p i))
-      (Fetched.Found v) on.first v refl (Fetched.Found w) on.second w e refl (end_join p l h t 12 v w (omega arith) (omega arith) e ee)
+      (Some v) on.first v refl (Some w) on.second w e refl (end_join p l h t 12 v w (omega arith) (omega arith) e ee)
 
   values_ended : (e : ℕ) → e ≡ join_end p h v w → (e ≡ 0 → ⊥) → JoinsOnce p l h t i e h t
   values_ended e ee = value_ended p l h t i on.can e (met e ee)
@@ -235,7 +234,7 @@ module _ (p l h t : List ℕ) (i : ℕ) (bs : List ℕ) (on : CanPutJoin p l h t
     unfolding defined
     evaluates =
         operation_made p l h t (instruction_c p i) value 12 a b entry u h₁ t₁
-        (producing.operation_both p l h t 12 a b produces (Fetched.Found v) can.first v refl (Fetched.Found w) can.second w u h₁ t₁ refl
+        (producing.operation_both p l h t 12 a b produces (Some v) can.first v refl (Some w) can.second w u h₁ t₁ refl
         (produce_joined p l h t 12 v w produces (Ok Operated.Joined) (operates_join p l h t 12 v w (omega arith) refl on.end) refl u h₁ t₁ m))
 
     same_frames : frames_held h₁ ≡ frames_held h
@@ -263,26 +262,26 @@ module _ (p l h t : List ℕ) (i : ℕ) (bs : List ℕ) (on : CanPutJoin p l h t
     join_set e u h₁ t₁ m h₂ e₂ h₃ e₃ =
         made (put_empty p h (root_of own_path h) j n e) h₂ t₁ (sets_root p l h t (instruction_c p i) u h₁ t₁ (evaluates u h₁ t₁ m) j n own_path e h₂ e₂) h₃ e₃
 
-    module _ (ne : n ≡ 0 → ⊥) (root : Value) (eo : root ≡ root_of (eqb k 0) h) (r : PutTarget) (er : targeted r ≡ target_along (frames_held h) root (path_held p j n)) where
+    module _ (ne : n ≡ 0 → ⊥) (root : Value) (eo : root ≡ root_of (eqb k 0) h) (r : Option PutTarget) (er : targeted r ≡ target_along (frames_held h) root (path_held p j n)) where
       target_is : targeted r ≡ target_along (frames_held h) (root_of own_path h) (path_held p j n)
       target_is = rw eo at er
 
       put_is : (e : ℕ) → e ≡ target_end (frames_held h) (target_along (frames_held h) (root_of own_path h) (path_held p j n)) → e ≡ put_end p h (root_of own_path h) j n
       put_is e ee = ends-laws.put_along p h (root_of own_path h) j n e ne ee
 
-      pub join_nowhere : r ≡ PutTarget.NoRule → JoinsOnce p l h t i 31 h t
+      pub join_nowhere : r ≡ None → JoinsOnce p l h t i 31 h t
       join_nowhere is = ended p l h t i can.can 31 (end_is 31 (put_is 31 (put_end_none (frames_held h) _ r target_is is))) (λ z. omega arith)
 
-      module _ (f y : ℕ) (is : r ≡ PutTarget.At f y) (d : ℕ) (ed : d ≡ slot_end (get_elem? (frames_held h) f) y) where
+      module _ (at : PutTarget) (is : r ≡ Some at) (d : ℕ) (ed : d ≡ slot_end (get_elem? (frames_held h) at.frame) at.name) where
         slot_is : d ≡ put_end p h (root_of own_path h) j n
-        slot_is = put_is d (put_end_at (frames_held h) _ r target_is f y d is ed)
+        slot_is = put_is d (put_end_at (frames_held h) _ r target_is at d is ed)
 
         pub join_full : (d ≡ 0 → ⊥) → JoinsOnce p l h t i d h t
         join_full some = ended p l h t i can.can d (end_is d slot_is) some
 
-        pub join_put : d ≡ 0 → (u : Value) (h₁ t₁ : List ℕ) → MakesText h t bs u h₁ t₁ → (h₂ : List ℕ) → h₂ ≡ put_slot h₁ f y u
+        pub join_put : d ≡ 0 → (u : Value) (h₁ t₁ : List ℕ) → MakesText h t bs u h₁ t₁ → (h₂ : List ℕ) → h₂ ≡ put_slot h₁ at.frame at.name u
             → (h₃ : List ℕ) → h₃ ≡ set_position h₂ (instruction_after p i) → JoinsOnce p l h t i 0 h₃ t₁
         join_put z u h₁ t₁ m h₂ e₂ h₃ e₃ =
-            let at : targeted r ≡ target_along (frames_held h₁) (root_of own_path h) (path_held p j n) = rw (same_frames u h₁ t₁ m) target_is in
-            let eh : h₂ ≡ put_along p h₁ (root_of own_path h) j n u = put_somewhere p h₁ (root_of own_path h) j n u r at f y h₂ is e₂ in
+            let here : targeted r ≡ target_along (frames_held h₁) (root_of own_path h) (path_held p j n) = rw (same_frames u h₁ t₁ m) target_is in
+            let eh : h₂ ≡ put_along p h₁ (root_of own_path h) j n u = put_somewhere p h₁ (root_of own_path h) j n u r here at h₂ is e₂ in
             made (sym z ∙ slot_is) h₂ t₁ (puts_root p l h t (instruction_c p i) u h₁ t₁ (evaluates u h₁ t₁ m) j n ne (root_of own_path h) h₂ eh own_path refl) h₃ e₃

@@ -1,9 +1,9 @@
--- The ends of a jump and of `ifeq`: they are those that `bounded`'s check names, and none is above 35. Assumes nothing.
-use Prim.Native.Nat.{ℕ, ◌≤◌, ◌<◌}
+-- The ends of a jump and of `ifeq`: they are those that `bounded`'s check names. Assumes nothing.
+use Prim.Native.Nat.{ℕ, ◌<◌}
 use mathlib.Core.Path.{◌≡◌, refl, sym}
 use mathlib.Core.Bool.{Bool, true, false}
-use mathlib.Core.List.{List, []}
-use native.Mathlib.Omega.{arith}
+use mathlib.Core.List.{List}
+use Rattle.std.specs.Prelude.{Option, Some, None}
 use Rattle.framed.specs.declared.Value.{Value}
 use Rattle.framed.specs.Values.{truth}
 use Rattle.framed.specs.Machine.{Result, gives, ends, ◌>>=◌, defined, code_number}
@@ -12,29 +12,21 @@ use Rattle.tables.specs.Entries.{instruction_at}
 use Rattle.tables.specs.Fields.{instructions}
 use Rattle.trees.proofs.Held.{jump_held, ifeq_held}
 use Rattle.heap.specs.Held.{heap_held}
-use Rattle.paths.specs.declared.Fetched.{Fetched}
 use Rattle.paths.specs.Paths.{fetched}
 use Rattle.bounded.specs.Check.{end_of, Jump, jump_result, ifeq_end, check}
-use Rattle.bounded.proofs.UnboundedRuns.{Within}
 use Rattle.operands.specs.Operands.{operand_value}
 use Rattle.checking.specs.Checking.{Checks}
 use Rattle.commit.specs.Direct.{end_met}
-use Rattle.commit.proofs.Direct.{operand_within}
 use Rattle.step_jump.specs.Jump.{jump_end}
 
 -- ---- Operands
 
-end_few : {A : Type 0} (r : Result A) → Within r → end_of r ≤ 35
-unfolding end_of
-end_few (gives a) w = omega arith
-end_few (ends e) (lo, hi) = hi
-
-module _ (p h : List ℕ) (x : ℕ) (r : Fetched) (er : defined (fetched r) ≡ operand_value p h x) where
-  pub operand_undefined : r ≡ Fetched.Undefined → 31 ≡ end_of (operand_value p h x)
+module _ (p h : List ℕ) (x : ℕ) (r : Option Value) (er : defined (fetched r) ≡ operand_value p h x) where
+  pub operand_undefined : r ≡ None → 31 ≡ end_of (operand_value p h x)
   unfolding defined end_of
   operand_undefined e = rw (← er, e)
 
-  pub operand_found : (v : Value) → r ≡ Fetched.Found v → 0 ≡ end_of (operand_value p h x)
+  pub operand_found : (v : Value) → r ≡ Some v → 0 ≡ end_of (operand_value p h x)
   unfolding defined end_of
   operand_found v e = rw (← er, e)
 
@@ -64,28 +56,17 @@ unfolding end_of ◌>>=◌ code_number value_end jumped
 value_code k (gives s) = refl
 value_code k (ends e) = refl
 
-value_few : (v w : Result Value) → Within v → Within w → value_end v w ≤ 35
-unfolding end_of ◌>>=◌ code_number value_end jumped
-value_few (ends e) w (lo, hi) b = hi
-value_few (gives (Value.Int z)) w a b = omega arith
-value_few (gives (Value.Text t)) w a b = omega arith
-value_few (gives (Value.Code k)) w a b = rw (value_code k w) (end_few w b)
-value_few (gives (Value.Frame n)) w a b = omega arith
-
 module _ (p h : List ℕ) (a c : ℕ) where
   jump_open : jump_end p h a c ≡ value_end (operand_value p h a) (operand_value p h c)
   unfolding jump_end operand_value jump_result value_end jumped
   jump_open = refl
 
-  pub jump_few : jump_end p h a c ≤ 35
-  jump_few = rw jump_open (value_few (operand_value p h a) (operand_value p h c) (operand_within p h a) (operand_within p h c))
-
-  module _ (r : Fetched) (er : defined (fetched r) ≡ operand_value p h a) where
-    pub jump_undefined : r ≡ Fetched.Undefined → 31 ≡ jump_end p h a c
+  module _ (r : Option Value) (er : defined (fetched r) ≡ operand_value p h a) where
+    pub jump_undefined : r ≡ None → 31 ≡ jump_end p h a c
     unfolding defined
     jump_undefined e = rw (jump_open, ← er, e) (sym (value_undefined (operand_value p h c)))
 
-    module _ (v : Value) (ev : r ≡ Fetched.Found v) where
+    module _ (v : Value) (ev : r ≡ Some v) where
       pub jump_other : ((k : ℕ) → v ≡ Value.Code k → ⊥) → 31 ≡ jump_end p h a c
       unfolding defined
       jump_other k = rw (jump_open, ← er, ev) (sym (value_other (operand_value p h c) v k))
@@ -101,16 +82,16 @@ module _ (p l h t : List ℕ) (i : ℕ) (m : Checks p l h t) (there : i < instru
   unfolding check heap_held jump_end
   check_jump a c r at er = rw (er, jump_held p l m.program i there a c (sym at))
 
-  module _ (a c d : ℕ) (at : InstructionEntry.Ifeq a c d ≡ instruction_at p i) (r : Fetched) (er : defined (fetched r) ≡ operand_value p h a) where
+  module _ (a c d : ℕ) (at : InstructionEntry.Ifeq a c d ≡ instruction_at p i) (r : Option Value) (er : defined (fetched r) ≡ operand_value p h a) where
     check_ifeq : (s : ℕ) → s ≡ ifeq_end (operand_value p h a) (jump_end p h c d) → s ≡ end_met p l h t i
     unfolding check heap_held operand_value jump_end
     check_ifeq s es = rw (es, ifeq_held p l m.program i there a c d (sym at))
 
-    pub ifeq_undefined : r ≡ Fetched.Undefined → 31 ≡ end_met p l h t i
+    pub ifeq_undefined : r ≡ None → 31 ≡ end_met p l h t i
     unfolding defined ifeq_end
     ifeq_undefined e = check_ifeq 31 (rw (← er, e))
 
-    module _ (v : Value) (ev : r ≡ Fetched.Found v) (b : Bool) (eb : b ≡ truth v) where
+    module _ (v : Value) (ev : r ≡ Some v) (b : Bool) (eb : b ≡ truth v) where
       pub ifeq_on : b ≡ true → 0 ≡ end_met p l h t i
       unfolding defined ifeq_end
       ifeq_on q = check_ifeq 0 (rw (← er, ev, ← eb, q))

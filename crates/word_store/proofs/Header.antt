@@ -9,6 +9,7 @@ use native.Mathlib.Decide.{ℕ_discrete, dec_lt}
 use lib.ListN.{length, get_or}
 use lib.Seq.{set_comm, ext_get_or}
 use lib.Dec.{leb, ltb}
+use Rattle.std.specs.Prelude.{Option, Some, None}
 use Rattle.words.specs.Words.{pick, word, set_word}
 use Rattle.words.proofs.Laws.{set_size, word_other, word_same}
 use Rattle.framed.specs.declared.Value.{Value}
@@ -26,7 +27,6 @@ use Rattle.allocation.specs.Allocation.{lowest_from, next_frame, next_text, view
 use Rattle.mark.specs.declared.Work.{Work}
 use Rattle.mark.specs.Mark.{visit_value, visit_from, visit_all, mark_queue, mark_roots, blank, mark_all}
 use Rattle.collector.specs.Collect.{frame_unmarked, text_unmarked, sweep_from, sweep_frames, sweep_texts, swept, collect_heap}
-use Rattle.paths.specs.declared.SlotFound.{SlotFound}
 use Rattle.paths.specs.Paths.{slot_from}
 use Rattle.puts.specs.Puts.{put_found, put_slot}
 use Rattle.word_store.specs.Store.{clear_header, rooted, claim_frame, collect_rooted}
@@ -216,9 +216,9 @@ module _ (h : List ℕ) (f x : ℕ) (v : Value) where
   unfolding put_slot
   clear_put_slot = rw (low_slots (clear_local h) (omega arith) f) (go (slot_from (slots_held h f) x 0))
     where
-      go : (r : SlotFound) → clear_header (put_found h f x v r) ≡ put_found (clear_header h) f x v r
-      go (SlotFound.At i) = clear_set_slot h f i v
-      go SlotFound.Missing = clear_add_slot
+      go : (r : Option ℕ) → clear_header (put_found h f x v r) ≡ put_found (clear_header h) f x v r
+      go (Some i) = clear_set_slot h f i v
+      go None = clear_add_slot
 
 -- ---- A collection
 

@@ -4,11 +4,12 @@ use mathlib.Core.Path.{◌≡◌, refl, ◌∙◌, ap, sym}
 use mathlib.Core.Logic.{◌≢◌}
 use mathlib.Core.List.{List, [], ◌∷◌}
 use mathlib.Core.Bool.{Bool, true, false}
-use mathlib.Core.Option.{Option, none, some}
+use mathlib.Core.Option.{Option as Optional, none, some}
 use native.Mathlib.Omega.{arith}
 use lib.ListN.{length, get_or}
 use lib.Dec.{eqb}
 use borrow.Author.Tests.{eqb-false, ltb-true}
+use Rattle.std.specs.Prelude.{Option, Some, None}
 use Rattle.framed.specs.declared.Value.{Value}
 use Rattle.framed.specs.Values.{Slot, new_frame}
 use Rattle.framed.specs.Fetch.{in_slots}
@@ -18,7 +19,6 @@ use Rattle.heap.specs.Held.{slot_held, slots_held}
 use Rattle.heap.specs.Closed.{FrameInUse, NamesInUse}
 use Rattle.heap.proofs.Held.{slots_length, slot_at}
 use Rattle.bounded.specs.Check.{has_place}
-use Rattle.paths.specs.declared.SlotFound.{SlotFound}
 use Rattle.paths.specs.Paths.{slot_from}
 use Rattle.puts.specs.Puts.{put_found, put_slot}
 use Rattle.paths.proofs.Slots.{slot_hit, slot_miss}
@@ -34,7 +34,7 @@ unfolding in_slots
 absent [] x e j d lt = absurd (omega arith)
 absent (s ∷ ss) x e j d lt = go (eqb s.name x) refl e j lt (λ n i. absent ss x n i d)
   where
-    go : (b : Bool) → eqb s.name x ≡ b → ◌≡◌ {A = Option Value} (elim b [ true ↦ some s.value | false ↦ in_slots ss x ]) none → (j : ℕ) → j < suc (length ss) →
+    go : (b : Bool) → eqb s.name x ≡ b → ◌≡◌ {A = Optional Value} (elim b [ true ↦ some s.value | false ↦ in_slots ss x ]) none → (j : ℕ) → j < suc (length ss) →
         (in_slots ss x ≡ none → (i : ℕ) → i < length ss → (get_or ss i d).name ≢ x) → (get_or (s ∷ ss) j d).name ≢ x
     go true p n j lt rest = absurd (some≢none n)
     go false p n zero lt rest = eqb-false s.name x p
@@ -52,13 +52,13 @@ module _ (h : List ℕ) (f x : ℕ) where
     unfolding put_slot
     put_formed ok = go (slot_from (slots_held h f) x 0) refl
       where
-        go : (r : SlotFound) → r ≡ slot_from (slots_held h f) x 0 → StateWellFormed (put_found h f x v r) t l
-        go (SlotFound.At i) e =
-            let b = (slot_hit (slots_held h f) x (SlotFound.At i) e i refl).below in
+        go : (r : Option ℕ) → r ≡ slot_from (slots_held h f) x 0 → StateWellFormed (put_found h f x v r) t l
+        go (Some i) e =
+            let b = (slot_hit (slots_held h f) x (Some i) e i refl).below in
             let c = slots_length h f in
             set_slot_formed h t l w f u i v (omega arith) n o
-        go SlotFound.Missing e =
-            let m = (slot_miss (slots_held h f) x SlotFound.Missing e refl).value in
+        go None e =
+            let m = (slot_miss (slots_held h f) x None e refl).value in
             let c = slots_length h f in
             let r : length (slots_held h f) < 16 = ltb-true (length (slots_held h f)) 16 (sym (place_none (maker_at h f) (slots_held h f) x m) ∙ ok) in
             add_slot_formed h t l w f u x v (omega arith) named (absent_name m) n o

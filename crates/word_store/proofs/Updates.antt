@@ -6,6 +6,7 @@ use mathlib.Core.Bool.{Bool, true, false}
 use native.Mathlib.Omega.{arith}
 use lib.ListN.{length}
 use lib.Dec.{leb, ltb}
+use Rattle.std.specs.Prelude.{Option, Some, None}
 use Rattle.words.specs.Words.{pick, set_word}
 use Rattle.words.proofs.Laws.{word_other, word_same}
 use Rattle.framed.specs.declared.Value.{Value}
@@ -19,7 +20,6 @@ use Rattle.heap.proofs.Laws.{Local, Same, local_same, same_part, same_self, same
 use Rattle.heap.proofs.Laws.{set_self_local, set_self_self, set_program_local, set_program_program, set_position_local, set_position_position, set_end_local, set_end_end}
 use Rattle.heap.proofs.Held.{used_same, low_texts}
 use Rattle.allocation.specs.Allocation.{next_frame, next_text}
-use Rattle.paths.specs.declared.SlotFound.{SlotFound}
 use Rattle.paths.specs.Paths.{slot_from}
 use Rattle.puts.specs.Puts.{put_found, put_slot}
 use Rattle.mark.specs.Mark.{mark_all}
@@ -73,9 +73,9 @@ module _ (h : List ℕ) where
   unfolding put_slot
   keeps_put f x v = go (slot_from (slots_held h f) x 0)
     where
-      go : (r : SlotFound) → KeepsHeader h (put_found h f x v r)
-      go (SlotFound.At i) = keeps_slot (keeps_all h) f i v
-      go SlotFound.Missing = keeps_add f x v
+      go : (r : Option ℕ) → KeepsHeader h (put_found h f x v r)
+      go (Some i) = keeps_slot (keeps_all h) f i v
+      go None = keeps_add f x v
 
   pub keeps_text : (k n : ℕ) → KeepsHeader h (take_text h k n)
   unfolding take_text

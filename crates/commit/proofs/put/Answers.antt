@@ -4,5 +4,5 @@ use Rattle.commit.proofs.put.Goals as goal
 pub returns-in_default : goal.returns-in_default
 returns-in_default c = search put_nowhere
 
-pub returns : goal.returns
-returns c = search put_somewhere
+pub returns-in-Some : goal.returns-in-Some
+returns-in-Some c = search put_somewhere

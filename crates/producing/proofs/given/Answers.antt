@@ -1,8 +1,6 @@
-use Rattle.producing.proofs.Laws.{given_none, given_some}
+use mathlib.Core.Path.{◌∙◌}
+use Rattle.producing.proofs.Laws.{given_or}
 use Rattle.producing.proofs.given.Goals as goal
 
-pub returns-in_default : goal.returns-in_default
-returns-in_default c = search given_none
-
 pub returns : goal.returns
-returns c = search given_some
+returns c = c.unwrap_or.ensures ∙ given_or _ _ _ _ c.operand.ensures
