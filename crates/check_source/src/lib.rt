@@ -15,6 +15,7 @@ ghost use Rattle.check_source.specs.Numbers.{CleanSeen, MeaningOf, Means, Number
 
 use framed::LoadAnswer;
 use survey::Findings;
+use token_cache::Tokens;
 
 // Some frame has a name twice or more than 16 slots. Where none was seen to be so, they are not looked at again.
 fn bad_frame(c: &[u64; 16384], s: &[u8], clean: bool) -> bool
@@ -84,7 +85,11 @@ fn source_refusal(
     if n != 0 {
         return n;
     }
-    if grammar::one_frame(c, s) {
+    let tokens = Tokens {
+        cache: &*c,
+        source: s,
+    };
+    if grammar::one_frame(&tokens) {
         return meaning_refusal(c, s, v, f);
     }
     6

@@ -7,22 +7,21 @@ ghost use Rattle.source.specs.Positions.{part};
 ghost use Rattle.token_cache.specs.Cache.{Cached};
 ghost use Rattle.start.specs.Find.{after_kind, opening, find, value, start_value, Leads, HasStart};
 
-use grammar::Found;
 use token::TokenRead;
 
 // Where a token of kind k ends.
-fn take(c: &[u64; 16384], s: &[u8], at: usize, k: u32) -> Found
+fn take(c: &[u64; 16384], s: &[u8], at: usize, k: u32) -> Option<usize>
     requires { Cached c.now s.now }
     ensures { Leads (after_kind k) s.now at result }
 {
     let t = token_cache::token_in(c, s, at);
     let TokenRead::Token(j, _begin, end, _word) = t else {
-        return Found::Refused;
+        return None;
     };
     if j == k {
-        return Found::Done(end);
+        return Some(end);
     }
-    Found::Refused
+    None
 }
 
 // The token is the name of a slot of the frame, and its bytes are these.
@@ -37,7 +36,7 @@ fn is_slot(s: &[u8], slot: bool, a: usize, p: usize, name: &[u8]) -> bool
 }
 
 // Where the name of the first slot so named ends, in the frame whose slots begin there.
-fn find_slot(c: &[u64; 16384], s: &[u8], from: usize, name: &[u8]) -> Found
+fn find_slot(c: &[u64; 16384], s: &[u8], from: usize, name: &[u8]) -> Option<usize>
     requires { Cached c.now s.now }
     ensures { Leads (find name.now 0 0) s.now from result }
 {
@@ -47,18 +46,18 @@ fn find_slot(c: &[u64; 16384], s: &[u8], from: usize, name: &[u8]) -> Found
     while at < s.len() {
         match token_cache::token_in(c, s, at) {
             TokenRead::End => {
-                return Found::Refused;
+                return None;
             }
             TokenRead::NoToken => {
-                return Found::Refused;
+                return None;
             }
             TokenRead::Token(k, begin, end, _word) => {
                 if slots::closes(depth, k) {
-                    return Found::Refused;
+                    return None;
                 }
                 let slot = slots::names_slot(depth, last, k);
                 if is_slot(s, slot, begin, end, name) {
-                    return Found::Done(end);
+                    return Some(end);
                 }
                 depth = scan::depth_after(depth, k);
                 last = k;
@@ -66,53 +65,53 @@ fn find_slot(c: &[u64; 16384], s: &[u8], from: usize, name: &[u8]) -> Found
             }
         }
     }
-    Found::Refused
+    None
 }
 
 // Where the value of the first slot so named begins.
-fn slot_value(c: &[u64; 16384], s: &[u8], at: usize, name: &[u8]) -> Found
+fn slot_value(c: &[u64; 16384], s: &[u8], at: usize, name: &[u8]) -> Option<usize>
     requires { Cached c.now s.now }
     ensures { Leads (value name.now) s.now at result }
 {
     let x = find_slot(c, s, at, name);
-    let Found::Done(p) = x else {
-        return Found::Refused;
+    let Some(p) = x else {
+        return None;
     };
     take(c, s, p, 6)
 }
 
 // Where the slots of the frame written there begin.
-fn frame_slots(c: &[u64; 16384], s: &[u8], at: usize) -> Found
+fn frame_slots(c: &[u64; 16384], s: &[u8], at: usize) -> Option<usize>
     requires { Cached c.now s.now }
     ensures { Leads opening s.now at result }
 {
     let x = take(c, s, at, 0);
-    let Found::Done(p) = x else {
-        return Found::Refused;
+    let Some(p) = x else {
+        return None;
     };
     let y = take(c, s, p, 5);
-    let Found::Done(q) = y else {
-        return Found::Refused;
+    let Some(q) = y else {
+        return None;
     };
     take(c, s, q, 12)
 }
 
 // Where the value of slot start in the frame in slot Main begins.
-fn start_value(c: &[u64; 16384], s: &[u8]) -> Found
+fn start_value(c: &[u64; 16384], s: &[u8]) -> Option<usize>
     requires { Cached c.now s.now }
     ensures { Leads start_value s.now 0 result }
 {
     let x = frame_slots(c, s, 0);
-    let Found::Done(p) = x else {
-        return Found::Refused;
+    let Some(p) = x else {
+        return None;
     };
     let y = slot_value(c, s, p, b"Main");
-    let Found::Done(q) = y else {
-        return Found::Refused;
+    let Some(q) = y else {
+        return None;
     };
     let z = frame_slots(c, s, q);
-    let Found::Done(u) = z else {
-        return Found::Refused;
+    let Some(u) = z else {
+        return None;
     };
     slot_value(c, s, u, b"start")
 }
@@ -123,11 +122,11 @@ pub fn has_start(c: &[u64; 16384], s: &[u8]) -> bool
     ensures { HasStart s.now result }
 {
     let x = start_value(c, s);
-    let Found::Done(p) = x else {
+    let Some(p) = x else {
         return false;
     };
     let y = take(c, s, p, 28);
-    let Found::Done(_end) = y else {
+    let Some(_end) = y else {
         return false;
     };
     true
