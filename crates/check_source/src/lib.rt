@@ -15,35 +15,30 @@ ghost use Rattle.check_source.specs.Numbers.{CleanSeen, MeaningOf, Means, KeptAt
 
 use framed::LoadRefusal;
 use survey::Findings;
+use token_cache::Tokens;
 
 // Some frame has a name twice or more than 16 slots. Where none was seen to be so, they are not looked at again.
-fn bad_frame(c: &[u64; 16384], s: &[u8], clean: bool) -> bool
-    requires cached { Cached c.now s.now }
-    requires seen { CleanSeen s.now clean }
-    ensures { Decides bad_tree s.now result }
+fn bad_frame(tokens: &Tokens, clean: bool) -> bool
+    requires { CleanSeen tokens.now.source.now clean }
+    ensures { Decides bad_tree tokens.now.source.now result }
 {
     if clean {
         return false;
     }
-    slots::bad_frame(c, s)
+    slots::bad_frame(tokens)
 }
 
 // Numbers 7 to 12, of a source of which v was found.
-fn meaning_refusal(
-    c: &[u64; 16384],
-    s: &[u8],
-    v: Findings,
-    f: u32,
-) -> Result<(), LoadRefusal>
-    requires cached { Cached c.now s.now }
-    requires found { MeaningOf s.now v }
-    ensures { Means s.now f (load_refused result) }
+fn meaning_refusal(tokens: &Tokens, v: Findings, f: u32) -> Result<(), LoadRefusal>
+    requires { MeaningOf tokens.now.source.now v }
+    ensures { Means tokens.now.source.now f (load_refused result) }
 {
+    let s = tokens.source;
     let t = v.totals;
     if limits::outside_code(s, t) {
         return Err(LoadRefusal::OutsideCode);
     }
-    if bad_frame(c, s, v.clean) {
+    if bad_frame(tokens, v.clean) {
         return Err(LoadRefusal::BadFrame);
     }
     if limits::above_limit(s, t, v.names) {
@@ -52,7 +47,7 @@ fn meaning_refusal(
     if limits::far_up(s, t) {
         return Err(LoadRefusal::AboveProgram);
     }
-    if !start::has_start(c, s) {
+    if !start::has_start(tokens) {
         return Err(LoadRefusal::NoStart);
     }
     if limits::many_frames(s, t, f) {
@@ -86,10 +81,14 @@ fn source_refusal(
     *count = v.names;
     *strings = v.strings;
     v.refusal?;
-    if !grammar::one_frame(c, s) {
+    let tokens = Tokens {
+        cache: &*c,
+        source: s,
+    };
+    if !grammar::one_frame(&tokens) {
         return Err(LoadRefusal::NotOneFrame);
     }
-    meaning_refusal(c, s, v, f)
+    meaning_refusal(&tokens, v, f)
 }
 
 // What load answers to these lengths of the four memories, source, F and T. The names and the places of strings of a source that loads are kept, with how many there are in `count` and `strings`.

@@ -1,7 +1,6 @@
 -- The laws of `Runs`: how a reader that is put together runs. Assumes nothing.
 use mathlib.Core.Path.{◌≡◌, refl, sym, ap, ◌∙◌}
 use mathlib.Core.List.{List, [], ◌∷◌}
-use mathlib.Core.Option.{none}
 use Prim.Native.Nat.{ℕ, suc, ◌<◌, ◌≤◌}
 use native.Mathlib.Omega.{arith}
 use lib.IntN.{ℤ}
@@ -24,60 +23,60 @@ use Rattle.token.specs.declared.TokenRead.{TokenRead}
 use Rattle.sweep.proofs.Numbered.{operator_range, fixed_below}
 use Rattle.sweep.specs.Kinds.{kind_of, front_kind}
 use Rattle.grammar.specs.Runs.{Outcome, Runs, Any, Moved, KindAt, Front, Expects, KindsOk, Sees}
-use Rattle.grammar.specs.declared.Found.{Found}
+use Rattle.std.specs.Prelude.{Option, None, Some}
 
 -- ---- Readers one after the other, one or the other
 
-module _ {A B : Type 0} (Q : A → Type 0) (Q₂ : B → Type 0) (s : List ℕ) (R : Reader A) (at p : ℕ) (r : Found) where
-  bind_outcome : (f : A → Reader B) (table : List (List ℕ)) (us : List Symbol) → Outcome Q s table (R us) (Found.Done p) →
+module _ {A B : Type 0} (Q : A → Type 0) (Q₂ : B → Type 0) (s : List ℕ) (R : Reader A) (at p : ℕ) (r : Option ℕ) where
+  bind_outcome : (f : A → Reader B) (table : List (List ℕ)) (us : List Symbol) → Outcome Q s table (R us) (Some p) →
       ((a : A) → Q a → Runs Q₂ s (f a) p r) → Outcome Q₂ s table (P.◌>>=◌ R f us) r
   bind_outcome f table us (Outcome.done k c {ts} {a} q d e) h = rw (bind_out R f us e refl) ((h a q).runs table k c ts d)
 
-  pub bind_runs : (f : A → Reader B) → Runs Q s R at (Found.Done p) → ((a : A) → Q a → Runs Q₂ s (f a) p r) → Runs Q₂ s (P.◌>>=◌ R f) at r
+  pub bind_runs : (f : A → Reader B) → Runs Q s R at (Some p) → ((a : A) → Q a → Runs Q₂ s (f a) p r) → Runs Q₂ s (P.◌>>=◌ R f) at r
   bind_runs f m h = record { runs = λ table k c ts d. bind_outcome f table (numbered table k c ts) (m.runs table k c ts d) h }
 
-  then_outcome : (T : Reader B) (table : List (List ℕ)) (us : List Symbol) → Outcome Q s table (R us) (Found.Done p) →
+  then_outcome : (T : Reader B) (table : List (List ℕ)) (us : List Symbol) → Outcome Q s table (R us) (Some p) →
       Runs Q₂ s T p r → Outcome Q₂ s table (P.◌>>◌ R T us) r
   then_outcome T table us (Outcome.done k c {ts} {a} q d e) h = rw (then_out R T us e refl) (h.runs table k c ts d)
 
-  pub then_runs : (T : Reader B) → Runs Q s R at (Found.Done p) → Runs Q₂ s T p r → Runs Q₂ s (P.◌>>◌ R T) at r
+  pub then_runs : (T : Reader B) → Runs Q s R at (Some p) → Runs Q₂ s T p r → Runs Q₂ s (P.◌>>◌ R T) at r
   then_runs T m h = record { runs = λ table k c ts d. then_outcome T table (numbered table k c ts) (m.runs table k c ts d) h }
 
 module _ {A B : Type 0} (Q : A → Type 0) (Q₂ : B → Type 0) (s : List ℕ) (R : Reader A) (at : ℕ) where
-  failed : {x : Parsed A} {table : List (List ℕ)} → Outcome Q s table x Found.Refused → x ≡ fails
+  failed : {x : Parsed A} {table : List (List ℕ)} → Outcome Q s table x None → x ≡ fails
   failed (Outcome.refused e) = e
 
-  pub bind_stops : (f : A → Reader B) → Runs Q s R at Found.Refused → Runs Q₂ s (P.◌>>=◌ R f) at Found.Refused
+  pub bind_stops : (f : A → Reader B) → Runs Q s R at None → Runs Q₂ s (P.◌>>=◌ R f) at None
   bind_stops f m = record { runs = λ table k c ts d. Outcome.refused (bind_fails R f _ (failed (m.runs table k c ts d))) }
 
-  pub then_stops : (T : Reader B) → Runs Q s R at Found.Refused → Runs Q₂ s (P.◌>>◌ R T) at Found.Refused
+  pub then_stops : (T : Reader B) → Runs Q s R at None → Runs Q₂ s (P.◌>>◌ R T) at None
   then_stops T m = record { runs = λ table k c ts d. Outcome.refused (then_fails R T _ (failed (m.runs table k c ts d))) }
 
 module _ {A : Type 0} (Q : A → Type 0) (s : List ℕ) (at : ℕ) where
-  pub give_runs : (a : A) → Q a → Runs Q s (give a) at (Found.Done at)
+  pub give_runs : (a : A) → Q a → Runs Q s (give a) at (Some at)
   unfolding give
   give_runs a q = record { runs = λ table k c ts d. Outcome.done k c q d refl }
 
-  or_outcome : (R T : Reader A) (p : ℕ) (table : List (List ℕ)) (us : List Symbol) → Outcome Q s table (R us) (Found.Done p) → Outcome Q s table ((R or T) us) (Found.Done p)
+  or_outcome : (R T : Reader A) (p : ℕ) (table : List (List ℕ)) (us : List Symbol) → Outcome Q s table (R us) (Some p) → Outcome Q s table ((R or T) us) (Some p)
   or_outcome R T p table us (Outcome.done k c q d e) = Outcome.done k c q d (or_first R T us e)
 
-  pub or_runs : (R T : Reader A) (p : ℕ) → Runs Q s R at (Found.Done p) → Runs Q s (R or T) at (Found.Done p)
+  pub or_runs : (R T : Reader A) (p : ℕ) → Runs Q s R at (Some p) → Runs Q s (R or T) at (Some p)
   or_runs R T p m = record { runs = λ table k c ts d. or_outcome R T p table (numbered table k c ts) (m.runs table k c ts d) }
 
-  pub or_else : (R T : Reader A) (r : Found) → Runs Q s R at Found.Refused → Runs Q s T at r → Runs Q s (R or T) at r
+  pub or_else : (R T : Reader A) (r : Option ℕ) → Runs Q s R at None → Runs Q s T at r → Runs Q s (R or T) at r
   or_else R T r m h = record {
     runs = λ table k c ts d. rw (or_second R T (numbered table k c ts) (failed {B = A} Q Q s R at (m.runs table k c ts d)) refl) (h.runs table k c ts d);
   }
 
   -- where the first stands alone: whatever it finds, as long as the second finds nothing where the first does not
-  pub or_only : (R T : Reader A) (r : Found) → Runs Q s R at r → Runs Q s T at Found.Refused → Runs Q s (R or T) at r
-  or_only R T (Found.Done p) m h = or_runs R T p m
-  or_only R T Found.Refused m h = or_else R T Found.Refused m h
+  pub or_only : (R T : Reader A) (r : Option ℕ) → Runs Q s R at r → Runs Q s T at None → Runs Q s (R or T) at r
+  or_only R T (Some p) m h = or_runs R T p m
+  or_only R T None m h = or_else R T None m h
 
 -- a value made of what is read
-pub map_runs : {A B : Type 0} (s : List ℕ) (R : Reader A) (f : A → B) (at : ℕ) (r : Found) → Runs Any s R at r → Runs Any s (P.◌>>=◌ R (λ a. give (f a))) at r
-map_runs s R f at (Found.Done p) m = bind_runs Any Any s R at p (Found.Done p) _ m (λ a q. give_runs Any s p (f a) Any.any)
-map_runs s R f at Found.Refused m = bind_stops Any Any s R at _ m
+pub map_runs : {A B : Type 0} (s : List ℕ) (R : Reader A) (f : A → B) (at : ℕ) (r : Option ℕ) → Runs Any s R at r → Runs Any s (P.◌>>=◌ R (λ a. give (f a))) at r
+map_runs s R f at (Some p) m = bind_runs Any Any s R at p (Some p) _ m (λ a q. give_runs Any s p (f a) Any.any)
+map_runs s R f at None m = bind_stops Any Any s R at _ m
 
 -- ---- The first symbol
 
@@ -146,7 +145,7 @@ module _ (s : List ℕ) (at : ℕ) (t : TokenRead) (says : TokenAt class s at t)
     stands = λ l. absurd (omega arith);
   }
 
-  pub expect_none : (lo hi : ℕ) → KindsOk lo hi → ((k : ℕ) (n : ℕ) (i : ℕ) (j : ℕ) → t ≡ TokenRead.Token k n i j → ⊥) → Expects s lo hi at Found.Refused
+  pub expect_none : (lo hi : ℕ) → KindsOk lo hi → ((k : ℕ) (n : ℕ) (i : ℕ) (j : ℕ) → t ≡ TokenRead.Token k n i j → ⊥) → Expects s lo hi at None
   expect_none lo hi ok o = record {
     front = λ table k c ts d. Front.too_high (rw (nothing s at t says o table k c ts d) ok.known);
     on = Moved.stops;
@@ -167,19 +166,19 @@ module _ (s : List ℕ) (at : ℕ) (t : TokenRead) (says : TokenAt class s at t)
     pub kind_some : KindAt s at kk
     kind_some = record { is = λ table k c ts d. head_kind (front_of table k c ts d) }
 
-    pub expect_below : (lo hi : ℕ) → kk < lo → Expects s lo hi at Found.Refused
+    pub expect_below : (lo hi : ℕ) → kk < lo → Expects s lo hi at None
     expect_below lo hi l = record { front = λ table k c ts d. Front.too_low (lower (head_kind (front_of table k c ts d)) l); on = Moved.stops }
       where
         lower : {m n lo : ℕ} → m ≡ n → n < lo → m < lo
         lower e l = omega arith
 
-    pub expect_above : (lo hi : ℕ) → hi < kk → Expects s lo hi at Found.Refused
+    pub expect_above : (lo hi : ℕ) → hi < kk → Expects s lo hi at None
     expect_above lo hi l = record { front = λ table k c ts d. Front.too_high (rw (head_kind (front_of table k c ts d)) l); on = Moved.stops }
 
-    expected : (lo hi : ℕ) → lo ≤ kk → kk ≤ hi → (table : List (List ℕ)) (us : List Symbol) → Head s table p kk us → Front s table lo hi us (Found.Done p)
+    expected : (lo hi : ℕ) → lo ≤ kk → kk ≤ hi → (table : List (List ℕ)) (us : List Symbol) → Head s table p kk us → Front s table lo hi us (Some p)
     expected lo hi l h table us (head {x = x} k c e d q) = Front.one {x = x} k c (rw e l) (rw e h) d q
 
-    pub expect_one : (lo hi : ℕ) → lo ≤ kk → kk ≤ hi → Expects s lo hi at (Found.Done p)
+    pub expect_one : (lo hi : ℕ) → lo ≤ kk → kk ≤ hi → Expects s lo hi at (Some p)
     expect_one lo hi l h = record {
       front = λ table k c ts d. expected lo hi l h table (numbered table k c ts) (front_of table k c ts d);
       on = Moved.moves {p = p} (omega (arith, spot.begins, spot.more)) spot.inside;
@@ -226,11 +225,11 @@ pub record ByKind {A : Type 0} (R : Reader A) (lo hi : ℕ) : Type 0 where
   pub leaves : (us : List Symbol) → (lo ≤ front_kind us → front_kind us ≤ hi → ⊥) → R us ≡ fails
 
 module _ {A : Type 0} (R : Reader A) (lo hi : ℕ) (by : ByKind R lo hi) (s : List ℕ) (at : ℕ) where
-  by_outcome : (table : List (List ℕ)) (us : List Symbol) (r : Found) → Front s table lo hi us r → Outcome Any s table (R us) r
+  by_outcome : (table : List (List ℕ)) (us : List Symbol) (r : Option ℕ) → Front s table lo hi us r → Outcome Any s table (R us) r
   by_outcome table us _ (Front.one {x = x} {p = p} k c {ts} l h d e) =
       taken (by.takes x l h (numbered table k c ts))
     where
-      taken : (a : A) × (R (x ∷ numbered table k c ts) ≡ parsed a (numbered table k c ts)) → Outcome Any s table (R us) (Found.Done p)
+      taken : (a : A) × (R (x ∷ numbered table k c ts) ≡ parsed a (numbered table k c ts)) → Outcome Any s table (R us) (Some p)
       taken (a, q) = Outcome.done k c Any.any d (ap R e ∙ q)
   by_outcome table us _ (Front.too_low l) = Outcome.refused (by.leaves us (λ h i. none l h))
     where
@@ -241,10 +240,10 @@ module _ {A : Type 0} (R : Reader A) (lo hi : ℕ) (by : ByKind R lo hi) (s : Li
       none : {m n : ℕ} → m < n → n ≤ m → ⊥
       none l h = omega arith
 
-  pub by_runs : (r : Found) → Expects s lo hi at r → Runs Any s R at r
+  pub by_runs : (r : Option ℕ) → Expects s lo hi at r → Runs Any s R at r
   by_runs r x = record { runs = λ table k c ts d. by_outcome table (numbered table k c ts) r (x.front table k c ts d) }
 
-  pub by_stops : (kind : ℕ) → KindAt s at kind → (lo ≤ kind → kind ≤ hi → ⊥) → Runs Any s R at Found.Refused
+  pub by_stops : (kind : ℕ) → KindAt s at kind → (lo ≤ kind → kind ≤ hi → ⊥) → Runs Any s R at None
   by_stops kind x n = record { runs = λ table k c ts d. Outcome.refused (by.leaves _ (rw (x.is table k c ts d) n)) }
 
 -- fixed symbols other than operators: kind and number are the same

@@ -2,7 +2,7 @@
 use mathlib.Core.Path.{◌≡◌, refl, sym, ap, ◌∙◌}
 use mathlib.Core.Bool.{false, not}
 use mathlib.Core.List.{List, [], ◌∷◌}
-use mathlib.Core.Option.{Option, none, some}
+use mathlib.Core.Option.{Option as Maybe, some}
 use Prim.Native.Nat.{ℕ, suc, ◌+◌, ◌*◌, ◌<◌}
 use native.Mathlib.Omega.{arith}
 use lib.Dec.{eqb}
@@ -21,7 +21,7 @@ use Rattle.source.specs.Positions.{rest}
 use Rattle.sweep.specs.Kinds.{kind_of, front_kind}
 use Rattle.grammar.specs.Runs.{Outcome, Any, Meets, KindAt, OneFrame}
 use Rattle.grammar.specs.Readers.{frame}
-use Rattle.grammar.specs.declared.Found.{Found}
+use Rattle.std.specs.Prelude.{Option, None, Some}
 use Rattle.sweep.proofs.Numbered.{fixed_below}
 
 pub numbered_length : (table : List (List ℕ)) (k c : ℕ) (ts : List Token) → length (numbered table k c ts) ≡ length ts
@@ -49,7 +49,7 @@ whole_kind ss (x ∷ us) = ne_eqb (kind_of x) 29 (λ e. none e (kind_small x))
     none : {m n : ℕ} → m ≡ n → m < n → ⊥
     none e l = omega arith
 
-module _ (s : List ℕ) (x : Found) (m : Meets frame 0 s 0 x) (ts : List Token) (is : tokens class s ≡ some ts) where
+module _ (s : List ℕ) (x : Option ℕ) (m : Meets frame 0 s 0 x) (ts : List Token) (is : tokens class s ≡ some ts) where
   read : Tokens⊢ class (rest s 0) ts
   unfolding rest
   read = (tokens_agree class s ts).0 is
@@ -65,17 +65,17 @@ module _ (s : List ℕ) (x : Found) (m : Meets frame 0 s 0 x) (ts : List Token) 
   unfolding symbols enough
   found = (m.says (8 * length s + 1) (omega arith)).runs (name_table ts) 0 0 ts read
 
-  fails_none : Outcome Any s (name_table ts) (frame enough (symbols ts)) Found.Refused → false ≡ not (is_none (parse (symbols ts)))
+  fails_none : Outcome Any s (name_table ts) (frame enough (symbols ts)) None → false ≡ not (is_none (parse (symbols ts)))
   unfolding whole is_none
-  fails_none (Outcome.refused e) = ap (λ (o : Option (Slots Written)). not (is_none o)) (ap whole (sym e) ∙ bounded)
+  fails_none (Outcome.refused e) = ap (λ (o : Maybe (Slots Written)). not (is_none o)) (ap whole (sym e) ∙ bounded)
 
-  ends : (p k : ℕ) → KindAt s p k → Outcome Any s (name_table ts) (frame enough (symbols ts)) (Found.Done p) → eqb k 29 ≡ not (is_none (parse (symbols ts)))
+  ends : (p k : ℕ) → KindAt s p k → Outcome Any s (name_table ts) (frame enough (symbols ts)) (Some p) → eqb k 29 ≡ not (is_none (parse (symbols ts)))
   ends p k h (Outcome.done k₂ c₂ {ts = us} {a = ss} q d e) =
       ap (λ (n : ℕ). eqb n 29) (sym (h.is (name_table ts) k₂ c₂ us d)) ∙ whole_kind ss (numbered (name_table ts) k₂ c₂ us)
-      ∙ ap (λ (o : Option (Slots Written)). not (is_none o)) (ap whole (sym e) ∙ bounded)
+      ∙ ap (λ (o : Maybe (Slots Written)). not (is_none o)) (ap whole (sym e) ∙ bounded)
 
-pub frame_none : (s : List ℕ) (x : Found) → Meets frame 0 s 0 x → x ≡ Found.Refused → OneFrame s false
-frame_none s x m e = record { is = λ ts is. fails_none s Found.Refused (rw e at m) ts is (found s Found.Refused (rw e at m) ts is) }
+pub frame_none : (s : List ℕ) (x : Option ℕ) → Meets frame 0 s 0 x → x ≡ None → OneFrame s false
+frame_none s x m e = record { is = λ ts is. fails_none s None (rw e at m) ts is (found s None (rw e at m) ts is) }
 
-pub frame_ends : (s : List ℕ) (x : Found) (p k : ℕ) → Meets frame 0 s 0 x → x ≡ Found.Done p → KindAt s p k → OneFrame s (eqb k 29)
-frame_ends s x p k m e h = record { is = λ ts is. ends s (Found.Done p) (rw e at m) ts is p k h (found s (Found.Done p) (rw e at m) ts is) }
+pub frame_ends : (s : List ℕ) (x : Option ℕ) (p k : ℕ) → Meets frame 0 s 0 x → x ≡ Some p → KindAt s p k → OneFrame s (eqb k 29)
+frame_ends s x p k m e h = record { is = λ ts is. ends s (Some p) (rw e at m) ts is p k h (found s (Some p) (rw e at m) ts is) }

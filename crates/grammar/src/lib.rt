@@ -1,45 +1,36 @@
-// The grammar: functions over a source and a position that call each other in a cycle; the unread source length falls.
+// The grammar: functions over a source and a position that call each other in a cycle; the unread source length falls. Each finds the next position, or nothing.
 #![tactic(auto)]
 
+ghost use Rattle.std.specs.Prelude.{Some};
 ghost use Rattle.framed.specs.Parse.{a_base, a_path, an_expression, slots, an_instruction, instructions, names};
-ghost use Rattle.token_cache.specs.Cache.{Cached};
 ghost use Rattle.grammar.specs.Runs.{Meets, MeetsAll, Reads, ReadsOn, Passes, Expects, KindAt, KindsOk, Sees, OneFrame};
 ghost use Rattle.grammar.specs.Readers as R;
 
 use token::TokenRead;
-
-// What reading finds: the next position, or nothing.
-#[derive(Clone, Copy)]
-pub enum Found {
-    Done(usize),
-    Refused,
-}
+use token_cache::Tokens;
 
 // One token whose kind is lo to hi.
-fn expect(c: &[u64; 16384], s: &[u8], at: usize, lo: u32, hi: u32) -> Found
-    requires { Cached c.now s.now × KindsOk lo hi }
-    ensures { Expects s.now lo hi at result }
+fn expect(tokens: &Tokens, at: usize, lo: u32, hi: u32) -> Option<usize>
+    requires { KindsOk lo hi }
+    ensures { Expects tokens.now.source.now lo hi at result }
 {
-    let t = token_cache::token_in(c, s, at);
-    let TokenRead::Token(k, a, p, w) = t else {
-        return Found::Refused;
+    let TokenRead::Token(k, a, p, w) = tokens.token_at(at) else {
+        return None;
     };
     if k < lo {
-        return Found::Refused;
+        return None;
     }
     if hi < k {
-        return Found::Refused;
+        return None;
     }
-    Found::Done(p)
+    Some(p)
 }
 
 // The kind of the token, 29 where there is none.
-pub fn kind_at(c: &[u64; 16384], s: &[u8], at: usize) -> u32
-    requires { Cached c.now s.now }
-    ensures { KindAt s.now at result }
+pub fn kind_at(tokens: &Tokens, at: usize) -> u32
+    ensures { KindAt tokens.now.source.now at result }
 {
-    let t = token_cache::token_in(c, s, at);
-    let TokenRead::Token(k, a, p, w) = t else {
+    let TokenRead::Token(k, a, p, w) = tokens.token_at(at) else {
         return 29;
     };
     k
@@ -54,12 +45,10 @@ pub struct Seen {
     pub end: usize,
 }
 
-pub fn look(c: &[u64; 16384], s: &[u8], at: usize) -> Seen
-    requires { Cached c.now s.now }
-    ensures { Sees s.now at result }
+pub fn look(tokens: &Tokens, at: usize) -> Seen
+    ensures { Sees tokens.now.source.now at result }
 {
-    let t = token_cache::token_in(c, s, at);
-    let TokenRead::Token(k, a, p, w) = t else {
+    let TokenRead::Token(kind, begin, end, word) = tokens.token_at(at) else {
         return Seen {
             kind: 29,
             word: 0,
@@ -68,372 +57,272 @@ pub fn look(c: &[u64; 16384], s: &[u8], at: usize) -> Seen
         };
     };
     Seen {
-        kind: k,
-        word: w,
-        begin: a,
-        end: p,
+        kind,
+        word,
+        begin,
+        end,
     }
 }
 
-fn dot_name(c: &[u64; 16384], s: &[u8], at: usize) -> Found
-    requires { Cached c.now s.now }
-    ensures { ReadsOn R.dot_name s.now at result }
+fn dot_name(tokens: &Tokens, at: usize) -> Option<usize>
+    ensures { ReadsOn R.dot_name tokens.now.source.now at result }
 {
-    let x = expect(c, s, at, 7, 7);
-    let Found::Done(p) = x else {
-        return Found::Refused;
-    };
-    expect(c, s, p, 25, 25)
+    let p = expect(tokens, at, 7, 7)?;
+    expect(tokens, p, 25, 25)
 }
 
-fn dot_up(c: &[u64; 16384], s: &[u8], at: usize) -> Found
-    requires { Cached c.now s.now }
-    ensures { ReadsOn R.dot_up s.now at result }
+fn dot_up(tokens: &Tokens, at: usize) -> Option<usize>
+    ensures { ReadsOn R.dot_up tokens.now.source.now at result }
 {
-    let x = expect(c, s, at, 7, 7);
-    let Found::Done(p) = x else {
-        return Found::Refused;
-    };
-    expect(c, s, p, 8, 8)
+    let p = expect(tokens, at, 7, 7)?;
+    expect(tokens, p, 8, 8)
 }
 
 // Any number of dot and name: the position after them.
-fn names(c: &[u64; 16384], s: &[u8], at: usize) -> usize
-    requires { Cached c.now s.now }
-    ensures { Passes names s.now at result }
+fn names(tokens: &Tokens, at: usize) -> usize
+    ensures { Passes names tokens.now.source.now at result }
 {
     let mut i = at;
-    while i < s.len() {
-        let x = dot_name(c, s, i);
-        let Found::Done(p) = x else {
-            return i;
-        };
+    while let Some(p) = dot_name(tokens, i) {
         i = p;
     }
     i
 }
 
 // Further `^`, each after a dot.
-fn ups(c: &[u64; 16384], s: &[u8], at: usize) -> usize
-    requires { Cached c.now s.now }
-    ensures { Passes R.more_ups s.now at result }
+fn ups(tokens: &Tokens, at: usize) -> usize
+    ensures { Passes R.more_ups tokens.now.source.now at result }
 {
     let mut i = at;
-    while i < s.len() {
-        let x = dot_up(c, s, i);
-        let Found::Done(p) = x else {
-            return i;
-        };
+    while let Some(p) = dot_up(tokens, i) {
         i = p;
     }
     i
 }
 
 // A path whose first token is t.
-fn path_from(c: &[u64; 16384], s: &[u8], at: usize, t: Seen) -> Found
-    requires { Cached c.now s.now × Sees s.now at t }
-    ensures { Reads a_path s.now at result }
+fn path_from(tokens: &Tokens, at: usize, t: Seen) -> Option<usize>
+    requires { Sees tokens.now.source.now at t }
+    ensures { Reads a_path tokens.now.source.now at result }
 {
     if t.kind == 1 {
-        let q = names(c, s, t.end);
-        return Found::Done(q);
+        let q = names(tokens, t.end);
+        return Some(q);
     }
     if t.kind == 8 {
-        let q = ups(c, s, t.end);
-        let u = names(c, s, q);
-        return Found::Done(u);
+        let q = ups(tokens, t.end);
+        let u = names(tokens, q);
+        return Some(u);
     }
-    Found::Refused
+    None
 }
 
 // A path.
-fn path(c: &[u64; 16384], s: &[u8], at: usize) -> Found
-    requires { Cached c.now s.now }
-    ensures { Reads a_path s.now at result }
+fn path(tokens: &Tokens, at: usize) -> Option<usize>
+    ensures { Reads a_path tokens.now.source.now at result }
 {
-    let t = look(c, s, at);
-    path_from(c, s, at, t)
+    let t = look(tokens, at);
+    path_from(tokens, at, t)
 }
 
 // `code` `{` instructions `}`
 #[cycle(grammar)]
-fn block(c: &[u64; 16384], s: &[u8], at: usize) -> Found
-    requires { Cached c.now s.now }
-    ensures { Meets R.block 0 s.now at result }
+fn block(tokens: &Tokens, at: usize) -> Option<usize>
+    ensures { Meets R.block 0 tokens.now.source.now at result }
 {
-    let x = expect(c, s, at, 28, 28);
-    let Found::Done(p) = x else {
-        return Found::Refused;
-    };
-    let y = expect(c, s, p, 14, 14);
-    let Found::Done(q) = y else {
-        return Found::Refused;
-    };
-    let z = instructions(c, s, q);
-    let Found::Done(u) = z else {
-        return Found::Refused;
-    };
-    expect(c, s, u, 15, 15)
+    let p = expect(tokens, at, 28, 28)?;
+    let q = expect(tokens, p, 14, 14)?;
+    let u = instructions(tokens, q);
+    expect(tokens, u, 15, 15)
 }
 
 // A base whose first token is t: integer, string, path or code.
 #[cycle(grammar)]
-pub fn base_from(c: &[u64; 16384], s: &[u8], at: usize, t: Seen) -> Found
-    requires { Cached c.now s.now × Sees s.now at t }
-    ensures { Meets a_base 1 s.now at result }
+pub fn base_from(tokens: &Tokens, at: usize, t: Seen) -> Option<usize>
+    requires { Sees tokens.now.source.now at t }
+    ensures { Meets a_base 1 tokens.now.source.now at result }
 {
     if t.kind == 28 {
-        return block(c, s, at);
+        return block(tokens, at);
     }
     if t.kind < 26 {
-        return path_from(c, s, at, t);
+        return path_from(tokens, at, t);
     }
     if t.kind < 28 {
-        return Found::Done(t.end);
+        return Some(t.end);
     }
-    Found::Refused
+    None
 }
 
 // A base.
 #[cycle(grammar)]
-fn base(c: &[u64; 16384], s: &[u8], at: usize) -> Found
-    requires { Cached c.now s.now }
-    ensures { Meets a_base 1 s.now at result }
+fn base(tokens: &Tokens, at: usize) -> Option<usize>
+    ensures { Meets a_base 1 tokens.now.source.now at result }
 {
-    let t = look(c, s, at);
-    base_from(c, s, at, t)
+    let t = look(tokens, at);
+    base_from(tokens, at, t)
 }
 
 // `!` base
 #[cycle(grammar)]
-fn negation(c: &[u64; 16384], s: &[u8], at: usize) -> Found
-    requires { Cached c.now s.now }
-    ensures { Meets R.negation 0 s.now at result }
+fn negation(tokens: &Tokens, at: usize) -> Option<usize>
+    ensures { Meets R.negation 0 tokens.now.source.now at result }
 {
-    let x = expect(c, s, at, 9, 9);
-    let Found::Done(p) = x else {
-        return Found::Refused;
-    };
-    base(c, s, p)
+    let p = expect(tokens, at, 9, 9)?;
+    base(tokens, p)
 }
 
-// Operator and base, or nothing.
+// Operator and base, or nothing: the position after them.
 #[cycle(grammar)]
-fn operation(c: &[u64; 16384], s: &[u8], at: usize) -> Found
-    requires { Cached c.now s.now }
-    ensures { MeetsAll R.operation 0 s.now at result }
+fn operation(tokens: &Tokens, at: usize) -> usize
+    ensures { MeetsAll R.operation 0 tokens.now.source.now at (Some result) }
 {
-    let x = expect(c, s, at, 16, 24);
-    let Found::Done(p) = x else {
-        return Found::Done(at);
+    let Some(p) = expect(tokens, at, 16, 24) else {
+        return at;
     };
-    let y = base(c, s, p);
-    let Found::Done(q) = y else {
-        return Found::Done(at);
+    let Some(q) = base(tokens, p) else {
+        return at;
     };
-    Found::Done(q)
+    q
 }
 
 // A base, or base operator base.
 #[cycle(grammar)]
-fn binary(c: &[u64; 16384], s: &[u8], at: usize) -> Found
-    requires { Cached c.now s.now }
-    ensures { Meets R.binary 2 s.now at result }
+fn binary(tokens: &Tokens, at: usize) -> Option<usize>
+    ensures { Meets R.binary 2 tokens.now.source.now at result }
 {
-    let x = base(c, s, at);
-    let Found::Done(p) = x else {
-        return Found::Refused;
-    };
-    operation(c, s, p)
+    let p = base(tokens, at)?;
+    let q = operation(tokens, p);
+    Some(q)
 }
 
 // `frame` `:` `[` slots `]`
 #[cycle(grammar)]
-fn frame(c: &[u64; 16384], s: &[u8], at: usize) -> Found
-    requires { Cached c.now s.now }
-    ensures { Meets R.frame 0 s.now at result }
+fn frame(tokens: &Tokens, at: usize) -> Option<usize>
+    ensures { Meets R.frame 0 tokens.now.source.now at result }
 {
-    let x = expect(c, s, at, 0, 0);
-    let Found::Done(p) = x else {
-        return Found::Refused;
-    };
-    let y = expect(c, s, p, 5, 5);
-    let Found::Done(q) = y else {
-        return Found::Refused;
-    };
-    let z = expect(c, s, q, 12, 12);
-    let Found::Done(u) = z else {
-        return Found::Refused;
-    };
-    let w = slots(c, s, u);
-    let Found::Done(v) = w else {
-        return Found::Refused;
-    };
-    expect(c, s, v, 13, 13)
+    let p = expect(tokens, at, 0, 0)?;
+    let q = expect(tokens, p, 5, 5)?;
+    let u = expect(tokens, q, 12, 12)?;
+    let v = slots(tokens, u);
+    expect(tokens, v, 13, 13)
 }
 
 // An expression.
 #[cycle(grammar)]
-fn expression(c: &[u64; 16384], s: &[u8], at: usize) -> Found
-    requires { Cached c.now s.now }
-    ensures { Meets an_expression 3 s.now at result }
+fn expression(tokens: &Tokens, at: usize) -> Option<usize>
+    ensures { Meets an_expression 3 tokens.now.source.now at result }
 {
-    let k = kind_at(c, s, at);
+    let k = kind_at(tokens, at);
     if k == 0 {
-        return frame(c, s, at);
+        return frame(tokens, at);
     }
     if k == 9 {
-        return negation(c, s, at);
+        return negation(tokens, at);
     }
-    binary(c, s, at)
+    binary(tokens, at)
 }
 
-// Slots, parted by commas.
+// Slots, parted by commas: the position after them.
 #[cycle(grammar)]
-fn slots(c: &[u64; 16384], s: &[u8], at: usize) -> Found
-    requires { Cached c.now s.now }
-    ensures { Meets slots 0 s.now at result }
+fn slots(tokens: &Tokens, at: usize) -> usize
+    ensures { Meets slots 0 tokens.now.source.now at (Some result) }
 {
     let mut i = at;
-    while i < s.len() {
-        let x = expect(c, s, i, 25, 25);
-        let Found::Done(p) = x else {
-            return Found::Done(i);
+    while let Some(p) = expect(tokens, i, 25, 25) {
+        let Some(q) = expect(tokens, p, 6, 6) else {
+            return i;
         };
-        let y = expect(c, s, p, 6, 6);
-        let Found::Done(q) = y else {
-            return Found::Done(i);
+        let Some(u) = expression(tokens, q) else {
+            return i;
         };
-        let z = expression(c, s, q);
-        let Found::Done(u) = z else {
-            return Found::Done(i);
-        };
-        let w = expect(c, s, u, 11, 11);
-        let Found::Done(v) = w else {
-            return Found::Done(u);
+        let Some(v) = expect(tokens, u, 11, 11) else {
+            return u;
         };
         i = v;
     }
-    Found::Done(i)
+    i
 }
 
 // `show` base
 #[cycle(grammar)]
-fn showing(c: &[u64; 16384], s: &[u8], at: usize) -> Found
-    requires { Cached c.now s.now }
-    ensures { Meets R.showing 0 s.now at result }
+fn showing(tokens: &Tokens, at: usize) -> Option<usize>
+    ensures { Meets R.showing 0 tokens.now.source.now at result }
 {
-    let x = expect(c, s, at, 2, 2);
-    let Found::Done(p) = x else {
-        return Found::Refused;
-    };
-    base(c, s, p)
+    let p = expect(tokens, at, 2, 2)?;
+    base(tokens, p)
 }
 
 // `jump` base base
 #[cycle(grammar)]
-fn jumping(c: &[u64; 16384], s: &[u8], at: usize) -> Found
-    requires { Cached c.now s.now }
-    ensures { Meets R.jumping 0 s.now at result }
+fn jumping(tokens: &Tokens, at: usize) -> Option<usize>
+    ensures { Meets R.jumping 0 tokens.now.source.now at result }
 {
-    let x = expect(c, s, at, 3, 3);
-    let Found::Done(p) = x else {
-        return Found::Refused;
-    };
-    let y = base(c, s, p);
-    let Found::Done(q) = y else {
-        return Found::Refused;
-    };
-    base(c, s, q)
+    let p = expect(tokens, at, 3, 3)?;
+    let q = base(tokens, p)?;
+    base(tokens, q)
 }
 
 // `ifeq` base base base
 #[cycle(grammar)]
-fn branching(c: &[u64; 16384], s: &[u8], at: usize) -> Found
-    requires { Cached c.now s.now }
-    ensures { Meets R.branching 0 s.now at result }
+fn branching(tokens: &Tokens, at: usize) -> Option<usize>
+    ensures { Meets R.branching 0 tokens.now.source.now at result }
 {
-    let x = expect(c, s, at, 4, 4);
-    let Found::Done(p) = x else {
-        return Found::Refused;
-    };
-    let y = base(c, s, p);
-    let Found::Done(q) = y else {
-        return Found::Refused;
-    };
-    let z = base(c, s, q);
-    let Found::Done(u) = z else {
-        return Found::Refused;
-    };
-    base(c, s, u)
+    let p = expect(tokens, at, 4, 4)?;
+    let q = base(tokens, p)?;
+    let u = base(tokens, q)?;
+    base(tokens, u)
 }
 
 // path `:=` expression
 #[cycle(grammar)]
-fn assigning(c: &[u64; 16384], s: &[u8], at: usize) -> Found
-    requires { Cached c.now s.now }
-    ensures { Meets R.assigning 0 s.now at result }
+fn assigning(tokens: &Tokens, at: usize) -> Option<usize>
+    ensures { Meets R.assigning 0 tokens.now.source.now at result }
 {
-    let x = path(c, s, at);
-    let Found::Done(p) = x else {
-        return Found::Refused;
-    };
-    let y = expect(c, s, p, 6, 6);
-    let Found::Done(q) = y else {
-        return Found::Refused;
-    };
-    expression(c, s, q)
+    let p = path(tokens, at)?;
+    let q = expect(tokens, p, 6, 6)?;
+    expression(tokens, q)
 }
 
 // An instruction.
 #[cycle(grammar)]
-fn instruction(c: &[u64; 16384], s: &[u8], at: usize) -> Found
-    requires { Cached c.now s.now }
-    ensures { Meets an_instruction 1 s.now at result }
+fn instruction(tokens: &Tokens, at: usize) -> Option<usize>
+    ensures { Meets an_instruction 1 tokens.now.source.now at result }
 {
-    let k = kind_at(c, s, at);
+    let k = kind_at(tokens, at);
     if k == 2 {
-        return showing(c, s, at);
+        return showing(tokens, at);
     }
     if k == 3 {
-        return jumping(c, s, at);
+        return jumping(tokens, at);
     }
     if k == 4 {
-        return branching(c, s, at);
+        return branching(tokens, at);
     }
-    assigning(c, s, at)
+    assigning(tokens, at)
 }
 
-// Instructions, each closed by `;`.
+// Instructions, each closed by `;`: the position after them.
 #[cycle(grammar)]
-fn instructions(c: &[u64; 16384], s: &[u8], at: usize) -> Found
-    requires { Cached c.now s.now }
-    ensures { Meets instructions 2 s.now at result }
+fn instructions(tokens: &Tokens, at: usize) -> usize
+    ensures { Meets instructions 2 tokens.now.source.now at (Some result) }
 {
     let mut i = at;
-    while i < s.len() {
-        let x = instruction(c, s, i);
-        let Found::Done(p) = x else {
-            return Found::Done(i);
-        };
-        let y = expect(c, s, p, 10, 10);
-        let Found::Done(q) = y else {
-            return Found::Done(i);
+    while let Some(p) = instruction(tokens, i) {
+        let Some(q) = expect(tokens, p, 10, 10) else {
+            return i;
         };
         i = q;
     }
-    Found::Done(i)
+    i
 }
 
 // The whole source is one frame.
-pub fn one_frame(c: &[u64; 16384], s: &[u8]) -> bool
-    requires { Cached c.now s.now }
-    ensures { OneFrame s.now result }
+pub fn one_frame(tokens: &Tokens) -> bool
+    ensures { OneFrame tokens.now.source.now result }
 {
-    let x = frame(c, s, 0);
-    let Found::Done(p) = x else {
+    let Some(p) = frame(tokens, 0) else {
         return false;
     };
-    let k = kind_at(c, s, p);
-    k == 29
+    kind_at(tokens, p) == 29
 }

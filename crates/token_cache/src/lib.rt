@@ -5,11 +5,20 @@
 ghost use Rattle.std.specs.Prelude.{◌≡◌, ◌/◌, ◌%◌, eqb};
 ghost use Rattle.framed.specs.Common.{when◌then◌else◌};
 ghost use Rattle.framed.specs.Bytes.{class};
+ghost use Rattle.token_cache.specs.Single.{Cached-prop};
 ghost use Rattle.words.specs.Words.{word, set_word};
 ghost use Rattle.token.specs.Reading.{TokenAt};
 ghost use Rattle.token_cache.specs.Cache.{Cached, CanStore, CanEnd, Small, Packs, NotesFrom, held, packed, with_entry, note_at};
 
 use token::TokenRead;
+
+// A source, and the cache from which its tokens can be read.
+#[derive(Clone, Copy)]
+pub struct Tokens<'a> {
+    pub cache: &'a [u64; 16384],
+    pub source: &'a [u8],
+    pub ghost cached: { Cached cache.now source.now } by { Cached-prop cache.now source.now },
+}
 
 // What an entry holds above kind, begin and end, where its kind is k, else 0.
 fn last_of(e: u64, k: u64) -> u32
@@ -42,23 +51,6 @@ fn pack(k: u32, a: usize, p: usize, w: u32) -> u64
     (k as u64) + 32 * y
 }
 
-// The token at a position, after spaces and comments.
-pub fn token_in(c: &[u64; 16384], s: &[u8], at: usize) -> TokenRead
-    requires { Cached c.now s.now }
-    ensures { TokenAt class s.now at result }
-{
-    if at < 16384 {
-        let e = c[at];
-        if 31 < e {
-            return unpack(e);
-        }
-        if e == 31 {
-            return TokenRead::End;
-        }
-    }
-    token::token_at(s, at)
-}
-
 // The entry of a position; 0 past the end.
 fn entry_at(c: &[u64], at: usize) -> u64
     ensures { result ≡ word c.now at }
@@ -75,6 +67,43 @@ pub fn note(c: &[u64; 16384], at: usize) -> u32
 {
     let e = entry_at(c, at);
     last_of(e, 25)
+}
+
+impl<'a> Tokens<'a> {
+    // The token at a position, after spaces and comments.
+    pub fn token_at(&self, at: usize) -> TokenRead
+        ensures { TokenAt class self.now.source.now at result }
+    {
+        if at < 16384 {
+            let e = self.cache[at];
+            if 31 < e {
+                return unpack(e);
+            }
+            if e == 31 {
+                return TokenRead::End;
+            }
+        }
+        token::token_at(self.source, at)
+    }
+
+    // The note of the name that is kept at a position; 0 where there is none.
+    pub fn note_at(&self, at: usize) -> u32
+        ensures { result ≡ note_at self.now.cache.now at }
+    {
+        note(self.cache, at)
+    }
+}
+
+// The token at a position of a source, by a cache.
+pub fn token_in(c: &[u64; 16384], s: &[u8], at: usize) -> TokenRead
+    requires { Cached c.now s.now }
+    ensures { TokenAt class s.now at result }
+{
+    let tokens = Tokens {
+        cache: c,
+        source: s,
+    };
+    tokens.token_at(at)
 }
 
 // Sets the entry of a position, where there is room for its parts; the last is an integer's word or a name's note.

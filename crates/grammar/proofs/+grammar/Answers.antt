@@ -1,19 +1,19 @@
 use native.Mathlib.Omega.{arith}
 use borrow.Author.Rules.{rules}
-use Rattle.grammar.proofs.Laws.{assign_1, assign_2, assign_3, assign_falls, base_block, base_none, base_path, base_token, binary_1, binary_2, binary_falls, block_1, block_2, block_3, block_4, block_falls, expression_binary, expression_frame, expression_not, frame_1, frame_2, frame_3, frame_4, frame_5, frame_falls, ifeq_1, ifeq_2, ifeq_3, ifeq_4, ifeq_falls, ifeq_falls_2, ifeq_falls_3, instruction_assign, instruction_ifeq, instruction_jump, instruction_show, jump_1, jump_2, jump_3, jump_falls, jump_falls_2, list_1, list_2, list_again, list_end, list_falls, list_less, list_start, negation_1, negation_2, negation_falls, operation_1, operation_2, operation_3, operation_falls, show_1, show_2, show_falls, slots_1, slots_2, slots_3, slots_4, slots_again, slots_end, slots_falls, slots_less, slots_start}
+use Rattle.grammar.proofs.Laws.{assign_1, assign_2, assign_3, assign_falls, base_block, base_none, base_path, base_token, binary_1, binary_2, binary_falls, block_1, block_2, block_3, block_falls, expression_binary, expression_frame, expression_not, frame_1, frame_2, frame_3, frame_4, frame_falls, ifeq_1, ifeq_2, ifeq_3, ifeq_4, ifeq_falls, ifeq_falls_2, ifeq_falls_3, instruction_assign, instruction_ifeq, instruction_jump, instruction_show, jump_1, jump_2, jump_3, jump_falls, jump_falls_2, list_1, list_2, list_again, list_falls, list_less, list_start, negation_1, negation_2, negation_falls, operation_1, operation_2, operation_3, operation_falls, show_1, show_2, show_falls, slots_1, slots_2, slots_3, slots_4, slots_again, slots_falls, slots_less, slots_start}
 use Rattle.grammar.proofs.+grammar.Goals as goal
 
-pub assigning-returns-in_default : goal.assigning-returns-in_default
-assigning-returns-in_default t c = search assign_1
+pub assigning-returns-in_err-p : goal.assigning-returns-in_err-p
+assigning-returns-in_err-p t c = rw c.from_residual.ensures (search (assign_1, c.in_err-p.was))
 
-pub assigning-returns-in_default-y : goal.assigning-returns-in_default-y
-assigning-returns-in_default-y t c = search assign_2
+pub assigning-returns-in_err-q : goal.assigning-returns-in_err-q
+assigning-returns-in_err-q t c = rw c.from_residual-in_err-q.ensures (search (assign_2, c.in_ok-p.was, c.in_err-q.was))
 
 pub assigning-expression-requires : goal.assigning-expression-requires
-assigning-expression-requires t c = (search assign_falls, search rules)
+assigning-expression-requires t c = (search (assign_falls, c.in_ok-p.was, c.in_ok-q.was), search rules)
 
 pub assigning-returns : goal.assigning-returns
-assigning-returns t c = search assign_3
+assigning-returns t c = search (assign_3, c.in_ok-p.was, c.in_ok-q.was)
 
 pub base-base_from-requires : goal.base-base_from-requires
 base-base_from-requires t c = (omega arith, search rules)
@@ -33,53 +33,50 @@ base_from-returns-then-t-lt28 t c = search base_token
 pub base_from-returns : goal.base_from-returns
 base_from-returns t c = search base_none
 
-pub binary-base-x-requires : goal.binary-base-x-requires
-binary-base-x-requires t c = (omega arith, search rules)
+pub binary-base-requires : goal.binary-base-requires
+binary-base-requires t c = (omega arith, search rules)
 
-pub binary-returns-in_default : goal.binary-returns-in_default
-binary-returns-in_default t c = search binary_1
+pub binary-returns-in_err-p : goal.binary-returns-in_err-p
+binary-returns-in_err-p t c = rw c.from_residual.ensures (search (binary_1, c.in_err-p.was))
 
-pub binary-operation-requires : goal.binary-operation-requires
-binary-operation-requires t c = (search binary_falls, search rules)
+pub binary-operation-q-requires : goal.binary-operation-q-requires
+binary-operation-q-requires t c = (search (binary_falls, c.in_ok-p.was), search rules)
 
 pub binary-returns : goal.binary-returns
-binary-returns t c = search binary_2
+binary-returns t c = search (binary_2, c.in_ok-p.was)
 
-pub block-returns-in_default : goal.block-returns-in_default
-block-returns-in_default t c = search block_1
+pub block-returns-in_err-p : goal.block-returns-in_err-p
+block-returns-in_err-p t c = rw c.from_residual.ensures (search (block_1, c.in_err-p.was))
 
-pub block-returns-in_default-y : goal.block-returns-in_default-y
-block-returns-in_default-y t c = search block_2
+pub block-returns-in_err-q : goal.block-returns-in_err-q
+block-returns-in_err-q t c = rw c.from_residual-in_err-q.ensures (search (block_2, c.in_ok-p.was, c.in_err-q.was))
 
-pub block-instructions-z-requires : goal.block-instructions-z-requires
-block-instructions-z-requires t c = (search block_falls, search rules)
-
-pub block-returns-in_default-z : goal.block-returns-in_default-z
-block-returns-in_default-z t c = search block_3
+pub block-instructions-u-requires : goal.block-instructions-u-requires
+block-instructions-u-requires t c = (search (block_falls, c.in_ok-p.was, c.in_ok-q.was), search rules)
 
 pub block-returns : goal.block-returns
-block-returns t c = search block_4
+block-returns t c = search (block_3, c.in_ok-p.was, c.in_ok-q.was)
 
-pub branching-returns-in_default : goal.branching-returns-in_default
-branching-returns-in_default t c = search ifeq_1
-
-pub branching-base-y-requires : goal.branching-base-y-requires
-branching-base-y-requires t c = (search ifeq_falls, search rules)
-
-pub branching-returns-in_default-y : goal.branching-returns-in_default-y
-branching-returns-in_default-y t c = search ifeq_2
-
-pub branching-base-z-requires : goal.branching-base-z-requires
-branching-base-z-requires t c = (search ifeq_falls_2, search rules)
-
-pub branching-returns-in_default-z : goal.branching-returns-in_default-z
-branching-returns-in_default-z t c = search ifeq_3
+pub branching-returns-in_err-p : goal.branching-returns-in_err-p
+branching-returns-in_err-p t c = rw c.from_residual.ensures (search (ifeq_1, c.in_err-p.was))
 
 pub branching-base-requires : goal.branching-base-requires
-branching-base-requires t c = (search ifeq_falls_3, search rules)
+branching-base-requires t c = (search (ifeq_falls, c.in_ok-p.was), search rules)
+
+pub branching-returns-in_err-q : goal.branching-returns-in_err-q
+branching-returns-in_err-q t c = rw c.from_residual-in_err-q.ensures (search (ifeq_2, c.in_ok-p.was, c.in_err-q.was))
+
+pub branching-base-requires-2 : goal.branching-base-requires-2
+branching-base-requires-2 t c = (search (ifeq_falls_2, c.in_ok-p.was, c.in_ok-q.was), search rules)
+
+pub branching-returns-in_err-u : goal.branching-returns-in_err-u
+branching-returns-in_err-u t c = rw c.from_residual-in_err-u.ensures (search (ifeq_3, c.in_ok-p.was, c.in_ok-q.was, c.in_err-u.was))
+
+pub branching-base-requires-3 : goal.branching-base-requires-3
+branching-base-requires-3 t c = (search (ifeq_falls_3, c.in_ok-p.was, c.in_ok-q.was, c.in_ok-u.was), search rules)
 
 pub branching-returns : goal.branching-returns
-branching-returns t c = search ifeq_4
+branching-returns t c = search (ifeq_4, c.in_ok-p.was, c.in_ok-q.was, c.in_ok-u.was)
 
 pub expression-frame-requires : goal.expression-frame-requires
 expression-frame-requires t c = (omega arith, search rules)
@@ -99,23 +96,20 @@ expression-binary-requires t c = (omega arith, search rules)
 pub expression-returns : goal.expression-returns
 expression-returns t c = search expression_binary
 
-pub frame-returns-in_default : goal.frame-returns-in_default
-frame-returns-in_default t c = search frame_1
+pub frame-returns-in_err-p : goal.frame-returns-in_err-p
+frame-returns-in_err-p t c = rw c.from_residual.ensures (search (frame_1, c.in_err-p.was))
 
-pub frame-returns-in_default-y : goal.frame-returns-in_default-y
-frame-returns-in_default-y t c = search frame_2
+pub frame-returns-in_err-q : goal.frame-returns-in_err-q
+frame-returns-in_err-q t c = rw c.from_residual-in_err-q.ensures (search (frame_2, c.in_ok-p.was, c.in_err-q.was))
 
-pub frame-returns-in_default-z : goal.frame-returns-in_default-z
-frame-returns-in_default-z t c = search frame_3
+pub frame-returns-in_err-u : goal.frame-returns-in_err-u
+frame-returns-in_err-u t c = rw c.from_residual-in_err-u.ensures (search (frame_3, c.in_ok-p.was, c.in_ok-q.was, c.in_err-u.was))
 
-pub frame-slots-w-requires : goal.frame-slots-w-requires
-frame-slots-w-requires t c = (search frame_falls, search rules)
-
-pub frame-returns-in_default-w : goal.frame-returns-in_default-w
-frame-returns-in_default-w t c = search frame_4
+pub frame-slots-v-requires : goal.frame-slots-v-requires
+frame-slots-v-requires t c = (search (frame_falls, c.in_ok-p.was, c.in_ok-q.was, c.in_ok-u.was), search rules)
 
 pub frame-returns : goal.frame-returns
-frame-returns t c = search frame_5
+frame-returns t c = search (frame_4, c.in_ok-p.was, c.in_ok-q.was, c.in_ok-u.was)
 
 pub instruction-showing-requires : goal.instruction-showing-requires
 instruction-showing-requires t c = (omega arith, search rules)
@@ -141,95 +135,89 @@ instruction-assigning-requires t c = (omega arith, search rules)
 pub instruction-returns : goal.instruction-returns
 instruction-returns t c = search instruction_assign
 
-pub instructions-loop-i-init : goal.instructions-loop-i-init
-instructions-loop-i-init t c = search list_start
+pub instructions-loop-p-init : goal.instructions-loop-p-init
+instructions-loop-p-init t c = search list_start
 
-pub instructions-instruction-x-requires : goal.instructions-instruction-x-requires
-instructions-instruction-x-requires t c = (search list_falls, search rules)
-
-pub instructions-returns-in_default : goal.instructions-returns-in_default
-instructions-returns-in_default t c = search list_1
-
-pub instructions-returns-in_default-y : goal.instructions-returns-in_default-y
-instructions-returns-in_default-y t c = search list_2
-
-pub instructions-loop-i-smaller : goal.instructions-loop-i-smaller
-instructions-loop-i-smaller t c = search list_less
-
-pub instructions-loop-i-preserved : goal.instructions-loop-i-preserved
-instructions-loop-i-preserved t c = search list_again
+pub instructions-instruction-requires : goal.instructions-instruction-requires
+instructions-instruction-requires t c = (search list_falls, search rules)
 
 pub instructions-returns : goal.instructions-returns
-instructions-returns t c = search list_end
+instructions-returns t c = search list_1
 
-pub jumping-returns-in_default : goal.jumping-returns-in_default
-jumping-returns-in_default t c = search jump_1
+pub instructions-returns-in_default-expect : goal.instructions-returns-in_default-expect
+instructions-returns-in_default-expect t c = search list_2
 
-pub jumping-base-y-requires : goal.jumping-base-y-requires
-jumping-base-y-requires t c = (search jump_falls, search rules)
+pub instructions-loop-p-smaller : goal.instructions-loop-p-smaller
+instructions-loop-p-smaller t c = search list_less
 
-pub jumping-returns-in_default-y : goal.jumping-returns-in_default-y
-jumping-returns-in_default-y t c = search jump_2
+pub instructions-loop-p-preserved : goal.instructions-loop-p-preserved
+instructions-loop-p-preserved t c = search list_again
+
+pub jumping-returns-in_err-p : goal.jumping-returns-in_err-p
+jumping-returns-in_err-p t c = rw c.from_residual.ensures (search (jump_1, c.in_err-p.was))
 
 pub jumping-base-requires : goal.jumping-base-requires
-jumping-base-requires t c = (search jump_falls_2, search rules)
+jumping-base-requires t c = (search (jump_falls, c.in_ok-p.was), search rules)
+
+pub jumping-returns-in_err-q : goal.jumping-returns-in_err-q
+jumping-returns-in_err-q t c = rw c.from_residual-in_err-q.ensures (search (jump_2, c.in_ok-p.was, c.in_err-q.was))
+
+pub jumping-base-requires-2 : goal.jumping-base-requires-2
+jumping-base-requires-2 t c = (search (jump_falls_2, c.in_ok-p.was, c.in_ok-q.was), search rules)
 
 pub jumping-returns : goal.jumping-returns
-jumping-returns t c = search jump_3
+jumping-returns t c = search (jump_3, c.in_ok-p.was, c.in_ok-q.was)
 
-pub negation-returns-in_default : goal.negation-returns-in_default
-negation-returns-in_default t c = search negation_1
+pub negation-returns-in_err-p : goal.negation-returns-in_err-p
+negation-returns-in_err-p t c = rw c.from_residual.ensures (search (negation_1, c.in_err-p.was))
 
 pub negation-base-requires : goal.negation-base-requires
-negation-base-requires t c = (search negation_falls, search rules)
+negation-base-requires t c = (search (negation_falls, c.in_ok-p.was), search rules)
 
 pub negation-returns : goal.negation-returns
-negation-returns t c = search negation_2
+negation-returns t c = search (negation_2, c.in_ok-p.was)
 
 pub operation-returns-in_default : goal.operation-returns-in_default
 operation-returns-in_default t c = search operation_1
 
-pub operation-base-y-requires : goal.operation-base-y-requires
-operation-base-y-requires t c = (search operation_falls, search rules)
+pub operation-base-requires : goal.operation-base-requires
+operation-base-requires t c = (search operation_falls, search rules)
 
-pub operation-returns-in_default-y : goal.operation-returns-in_default-y
-operation-returns-in_default-y t c = search operation_2
+pub operation-returns-in_default-base : goal.operation-returns-in_default-base
+operation-returns-in_default-base t c = search operation_2
 
 pub operation-returns : goal.operation-returns
 operation-returns t c = search operation_3
 
-pub showing-returns-in_default : goal.showing-returns-in_default
-showing-returns-in_default t c = search show_1
+pub showing-returns-in_err-p : goal.showing-returns-in_err-p
+showing-returns-in_err-p t c = rw c.from_residual.ensures (search (show_1, c.in_err-p.was))
 
 pub showing-base-requires : goal.showing-base-requires
-showing-base-requires t c = (search show_falls, search rules)
+showing-base-requires t c = (search (show_falls, c.in_ok-p.was), search rules)
 
 pub showing-returns : goal.showing-returns
-showing-returns t c = search show_2
+showing-returns t c = search (show_2, c.in_ok-p.was)
 
-pub slots-loop-i-init : goal.slots-loop-i-init
-slots-loop-i-init t c = search slots_start
-
-pub slots-returns-in_default : goal.slots-returns-in_default
-slots-returns-in_default t c = search slots_1
-
-pub slots-returns-in_default-y : goal.slots-returns-in_default-y
-slots-returns-in_default-y t c = search slots_2
-
-pub slots-expression-z-requires : goal.slots-expression-z-requires
-slots-expression-z-requires t c = (search slots_falls, search rules)
-
-pub slots-returns-in_default-z : goal.slots-returns-in_default-z
-slots-returns-in_default-z t c = search slots_3
-
-pub slots-returns-in_default-w : goal.slots-returns-in_default-w
-slots-returns-in_default-w t c = search slots_4
-
-pub slots-loop-i-smaller : goal.slots-loop-i-smaller
-slots-loop-i-smaller t c = search slots_less
-
-pub slots-loop-i-preserved : goal.slots-loop-i-preserved
-slots-loop-i-preserved t c = search slots_again
+pub slots-loop-p-init : goal.slots-loop-p-init
+slots-loop-p-init t c = search slots_start
 
 pub slots-returns : goal.slots-returns
-slots-returns t c = search slots_end
+slots-returns t c = search slots_1
+
+pub slots-returns-in_default-expect : goal.slots-returns-in_default-expect
+slots-returns-in_default-expect t c = search slots_2
+
+pub slots-expression-requires : goal.slots-expression-requires
+slots-expression-requires t c = (search slots_falls, search rules)
+
+pub slots-returns-in_default-expression : goal.slots-returns-in_default-expression
+slots-returns-in_default-expression t c = search slots_3
+
+pub slots-returns-in_default-expect-2 : goal.slots-returns-in_default-expect-2
+slots-returns-in_default-expect-2 t c = search slots_4
+
+pub slots-loop-p-smaller : goal.slots-loop-p-smaller
+slots-loop-p-smaller t c = search slots_less
+
+pub slots-loop-p-preserved : goal.slots-loop-p-preserved
+slots-loop-p-preserved t c = search slots_again

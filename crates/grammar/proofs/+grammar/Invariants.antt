@@ -5,58 +5,58 @@ use Rattle.grammar.proofs.Laws.{Continues}
 use Rattle.grammar.proofs.+grammar.Given as goal
 
 abbrev pub decreases-assigning : goal.decreases-assigning
-decreases-assigning l = 8 * (length l.s.now - l.at) + 0
+decreases-assigning l = 8 * (length l.tokens.now.source.now - l.at) + 0
 
 abbrev pub decreases-base : goal.decreases-base
-decreases-base l = 8 * (length l.s.now - l.at) + 2
+decreases-base l = 8 * (length l.tokens.now.source.now - l.at) + 2
 
 abbrev pub decreases-base_from : goal.decreases-base_from
-decreases-base_from l = 8 * (length l.s.now - l.at) + 1
+decreases-base_from l = 8 * (length l.tokens.now.source.now - l.at) + 1
 
 abbrev pub decreases-binary : goal.decreases-binary
-decreases-binary l = 8 * (length l.s.now - l.at) + 3
+decreases-binary l = 8 * (length l.tokens.now.source.now - l.at) + 3
 
 abbrev pub decreases-block : goal.decreases-block
-decreases-block l = 8 * (length l.s.now - l.at) + 0
+decreases-block l = 8 * (length l.tokens.now.source.now - l.at) + 0
 
 abbrev pub decreases-branching : goal.decreases-branching
-decreases-branching l = 8 * (length l.s.now - l.at) + 0
+decreases-branching l = 8 * (length l.tokens.now.source.now - l.at) + 0
 
 abbrev pub decreases-expression : goal.decreases-expression
-decreases-expression l = 8 * (length l.s.now - l.at) + 4
+decreases-expression l = 8 * (length l.tokens.now.source.now - l.at) + 4
 
 abbrev pub decreases-frame : goal.decreases-frame
-decreases-frame l = 8 * (length l.s.now - l.at) + 0
+decreases-frame l = 8 * (length l.tokens.now.source.now - l.at) + 0
 
 abbrev pub decreases-instruction : goal.decreases-instruction
-decreases-instruction l = 8 * (length l.s.now - l.at) + 1
+decreases-instruction l = 8 * (length l.tokens.now.source.now - l.at) + 1
 
 abbrev pub decreases-instructions : goal.decreases-instructions
-decreases-instructions l = 8 * (length l.s.now - l.at) + 2
+decreases-instructions l = 8 * (length l.tokens.now.source.now - l.at) + 2
 
 abbrev pub decreases-jumping : goal.decreases-jumping
-decreases-jumping l = 8 * (length l.s.now - l.at) + 0
+decreases-jumping l = 8 * (length l.tokens.now.source.now - l.at) + 0
 
 abbrev pub decreases-negation : goal.decreases-negation
-decreases-negation l = 8 * (length l.s.now - l.at) + 0
+decreases-negation l = 8 * (length l.tokens.now.source.now - l.at) + 0
 
 abbrev pub decreases-operation : goal.decreases-operation
-decreases-operation l = 8 * (length l.s.now - l.at) + 0
+decreases-operation l = 8 * (length l.tokens.now.source.now - l.at) + 0
 
 abbrev pub decreases-showing : goal.decreases-showing
-decreases-showing l = 8 * (length l.s.now - l.at) + 0
+decreases-showing l = 8 * (length l.tokens.now.source.now - l.at) + 0
 
 abbrev pub decreases-slots : goal.decreases-slots
-decreases-slots l = 8 * (length l.s.now - l.at) + 0
+decreases-slots l = 8 * (length l.tokens.now.source.now - l.at) + 0
 
-abbrev pub invariant-instructions-loop-i : goal.invariant-instructions-loop-i
-invariant-instructions-loop-i l = Continues R.instructions 2 l.s l.at l.i
+abbrev pub invariant-instructions-loop-p : goal.invariant-instructions-loop-p
+invariant-instructions-loop-p l = Continues R.instructions 2 l.tokens.source.now l.at l.i
 
-abbrev pub decreases-instructions-loop-i : goal.decreases-instructions-loop-i
-decreases-instructions-loop-i l = length l.s - l.i
+abbrev pub decreases-instructions-loop-p : goal.decreases-instructions-loop-p
+decreases-instructions-loop-p l = length l.tokens.source.now - l.i
 
-abbrev pub invariant-slots-loop-i : goal.invariant-slots-loop-i
-invariant-slots-loop-i l = Continues R.slots 0 l.s l.at l.i
+abbrev pub invariant-slots-loop-p : goal.invariant-slots-loop-p
+invariant-slots-loop-p l = Continues R.slots 0 l.tokens.source.now l.at l.i
 
-abbrev pub decreases-slots-loop-i : goal.decreases-slots-loop-i
-decreases-slots-loop-i l = length l.s - l.i
+abbrev pub decreases-slots-loop-p : goal.decreases-slots-loop-p
+decreases-slots-loop-p l = length l.tokens.source.now - l.i

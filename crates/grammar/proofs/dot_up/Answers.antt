@@ -1,8 +1,8 @@
 use Rattle.grammar.proofs.Paths.{dot_up_none, dot_up_then}
 use Rattle.grammar.proofs.dot_up.Goals as goal
 
-pub returns-in_default : goal.returns-in_default
-returns-in_default c = search dot_up_none
+pub returns-in_err-p : goal.returns-in_err-p
+returns-in_err-p c = rw c.from_residual.ensures (search (dot_up_none, c.in_err-p.was))
 
 pub returns : goal.returns
-returns c = search dot_up_then
+returns c = search (dot_up_then, c.in_ok-p.was)

@@ -4,8 +4,8 @@ use Rattle.grammar.specs.Readers.{dot_name}
 use Rattle.grammar.proofs.Paths.{Leads}
 use Rattle.grammar.proofs.names.Given as goal
 
-abbrev pub invariant-loop-i : goal.invariant-loop-i
-invariant-loop-i l = Leads dot_name l.s l.at l.i
+abbrev pub invariant-loop-p : goal.invariant-loop-p
+invariant-loop-p l = Leads dot_name l.tokens.source.now l.at l.i
 
-abbrev pub decreases-loop-i : goal.decreases-loop-i
-decreases-loop-i l = length l.s - l.i
+abbrev pub decreases-loop-p : goal.decreases-loop-p
+decreases-loop-p l = length l.tokens.source.now - l.i

@@ -34,7 +34,7 @@ returns-then-n-gt16 c = let m : 16 < c.add_slot-n.result = omega arith in search
 
 pub depth_after-depth-requires : goal.depth_after-depth-requires
 depth_after-depth-requires c =
-    search (collect_shallow, rules, c.loop-at-test.true, c.loop-at.invariant.0, c.shared_slice_known-1.given)
+    let h : c.loop-at.at < 18446744073709551615 = omega arith in search (collect_shallow, c.loop-at.invariant.0)
 
 pub loop-at-smaller : goal.loop-at-smaller
 loop-at-smaller c = search token_less

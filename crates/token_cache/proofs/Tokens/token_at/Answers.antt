@@ -1,6 +1,6 @@
 use Rattle.words.specs.Words.{word}
 use Rattle.token_cache.proofs.Laws.{entry, entry_end}
-use Rattle.token_cache.proofs.token_in.Goals as goal
+use Rattle.token_cache.proofs.Tokens.token_at.Goals as goal
 
 pub returns-then-e-gt31 : goal.returns-then-e-gt31
 unfolding word
