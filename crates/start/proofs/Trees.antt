@@ -13,7 +13,7 @@ use Rattle.framed.specs.Symbols.{Symbol, number_in, numbered, symbols, name_tabl
 use Rattle.framed.specs.Tree.{Written, Base, Expression, Slots}
 use Rattle.framed.specs.Grammar.{Path⊢, Base⊢, Expression⊢, Frame⊢, Slots⊢, Source}
 use Rattle.framed.specs.Paths.{Place, outside_code, in_code, within_slot, program_place}
-use Rattle.framed.specs.Meaning.{frame, path, outside, misplaced, base_pieces, expression_pieces, slots_pieces, pieces, slot_of, frame_in, code_in, main_start, is_none}
+use Rattle.framed.specs.Meaning.{outside, misplaced, base_pieces, expression_pieces, slots_pieces, pieces, slot_of, frame_in, code_in, main_start, is_none}
 use Rattle.framed.proofs.General.{some_inj}
 use Rattle.framed.proofs.ParseExact.{parse_sound}
 use Rattle.source.specs.Positions.{rest}

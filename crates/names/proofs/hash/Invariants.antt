@@ -1,5 +1,3 @@
-use Prim.Native.Nat.{◌-◌}
-use lib.ListN.{length}
 use Rattle.names.proofs.Laws.{Hashing}
 use Rattle.names.proofs.hash.Given as goal
 

@@ -1,5 +1,4 @@
 use Rattle.names.proofs.Numbers.{Seeking}
-use Prim.Native.Nat.{◌-◌}
 use Rattle.names.proofs.number_of.Given as goal
 
 abbrev pub invariant-loop-k : goal.invariant-loop-k

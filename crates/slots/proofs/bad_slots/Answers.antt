@@ -2,7 +2,6 @@ use Rattle.slots.proofs.Laws.{collect_start, collect_end, collect_none, collect_
 use Prim.Native.Nat.{◌<◌}
 use native.Mathlib.Omega.{arith}
 use Rattle.token.proofs.Answers.{token_less}
-use borrow.Author.Rules.{rules}
 use Rattle.slots.proofs.bad_slots.Goals as goal
 
 pub loop-at-init : goal.loop-at-init
