@@ -1,9 +1,11 @@
 -- The lowest number that holds, one law for each way through each function. Assumes nothing.
+use Rattle.std.specs.Prelude.{Result, Ok, Err, ⊤}
+use Rattle.std.specs.Result.{IsErrAnd}
 use mathlib.Core.Path.{◌≡◌, refl, sym, ap, ◌∙◌}
 use mathlib.Core.Bool.{Bool, true, false, not, ◌&&◌, true≢false, false≢true}
 use mathlib.Core.List.{List, [], ◌∷◌}
 use mathlib.Core.Option.{Option, none, some}
-use Prim.Native.Nat.{ℕ, zero, suc, ◌≤◌}
+use Prim.Native.Nat.{ℕ, zero, suc}
 use native.Mathlib.Omega.{arith}
 use lib.Dec.{leb, ltb}
 use lib.ListN.{length}
@@ -14,10 +16,9 @@ use Rattle.framed.specs.Tokens.{Token, tokens, highest_nesting}
 use Rattle.framed.specs.Symbols.{symbols, name_table}
 use Rattle.framed.specs.Tree.{Written, Slots}
 use Rattle.framed.specs.Parse.{parse}
-use Rattle.framed.proofs.RefusalLowest.{lowest_bound}
 use Rattle.framed.specs.Meaning.{Lengths, right_lengths, pieces, misplaced, bad_frame, above_limit, too_far_up, main_start, is_none, frame_outside, lowest, arguments_refusal, meaning_refusal, tree_refusal, source_refusal, refusal}
-use Rattle.framed.specs.Answers.{load_number}
-use Rattle.framed.specs.declared.LoadAnswer.{LoadAnswer}
+use Rattle.framed.specs.Answers.{load_refusal_number, load_refused}
+use Rattle.framed.specs.declared.LoadRefusal.{LoadRefusal}
 use Rattle.scan.specs.Scan.{tokens_refusal}
 use Rattle.survey.specs.Survey.{Surveyed}
 use Rattle.survey.specs.declared.Findings.{Findings}
@@ -27,7 +28,7 @@ use Rattle.slots.specs.Own.{bad_tree}
 use Rattle.start.specs.Find.{HasStart}
 use Rattle.limits.specs.Limits.{misplaced_tree, limit_tree, far_tree, frames_tree}
 use Rattle.limits.specs.Arguments.{lengths_refusal, limits_refusal}
-use Rattle.check_source.specs.Numbers.{CleanSeen, MeaningOf, Means, Numbered, KeptAt}
+use Rattle.check_source.specs.Numbers.{CleanSeen, MeaningOf, Means, KeptAt}
 
 -- ---- 7 to 12
 
@@ -144,7 +145,7 @@ module _ (s : List ℕ) (F n : ℕ) (e : n ≡ tokens_refusal (tokens class s)) 
       go true m e = e
       go false m e = absurd (f e)
 
-  pub source_early : (n ≡ 0 → ⊥) → n ≡ source_refusal (tokens class s) F
+  source_early : (n ≡ 0 → ⊥) → n ≡ source_refusal (tokens class s) F
   source_early f = nested (tokens class s) e f
 
   -- where 4 and 5 do not hold
@@ -158,16 +159,63 @@ module _ (s : List ℕ) (F n : ℕ) (e : n ≡ tokens_refusal (tokens class s)) 
         go true f k = absurd (omega arith)
         go false f k = k
 
-    pub source_six : t ≡ false → 6 ≡ source_refusal (tokens class s) F
+    source_six : t ≡ false → 6 ≡ source_refusal (tokens class s) F
     source_six q = late 6 (tokens class s) refl e (λ ts g. six (name_table ts) (parse (symbols ts)) F (sym q ∙ h.is ts g))
 
-    pub source_means : t ≡ true → (r : ℕ) → Means s F r → r ≡ source_refusal (tokens class s) F
+    source_means : t ≡ true → (r : ℕ) → Means s F r → r ≡ source_refusal (tokens class s) F
     source_means q r m = late r (tokens class s) refl e (λ ts g. seven ts F r (parse (symbols ts)) refl (sym q ∙ h.is ts g) (λ ss f. m.is ts ss g f))
+
+-- ---- Refusals
+
+-- a refusal has a number from 1 on
+refusal_positive : (e : LoadRefusal) → load_refusal_number e ≡ 0 → ⊥
+refusal_positive LoadRefusal.MemoryLength z = omega arith
+refusal_positive LoadRefusal.LimitRange z = omega arith
+refusal_positive LoadRefusal.SourceLength z = omega arith
+refusal_positive LoadRefusal.NoToken z = omega arith
+refusal_positive LoadRefusal.Nesting z = omega arith
+refusal_positive LoadRefusal.NotOneFrame z = omega arith
+refusal_positive LoadRefusal.OutsideCode z = omega arith
+refusal_positive LoadRefusal.BadFrame z = omega arith
+refusal_positive LoadRefusal.CountLimit z = omega arith
+refusal_positive LoadRefusal.AboveProgram z = omega arith
+refusal_positive LoadRefusal.NoStart z = omega arith
+refusal_positive LoadRefusal.WrittenFrames z = omega arith
+
+module _ (x : Result ⊤ LoadRefusal) (e : LoadRefusal) (q : x ≡ Err e) where
+  number_is : load_refused x ≡ load_refusal_number e
+  number_is = ap load_refused q
+
+  number_not : load_refused x ≡ 0 → ⊥
+  number_not z = refusal_positive e (sym number_is ∙ z)
+
+-- what `?` passes on
+passed_on : (r : Result ⊤ LoadRefusal) (e : LoadRefusal) → IsErrAnd r (λ f. f ≡ e) → load_refused r ≡ load_refusal_number e
+passed_on (Ok u) e h = absurd h
+passed_on (Err f) e h = ap load_refusal_number h
+
+number_none : (x : Result ⊤ LoadRefusal) (u : ⊤) → x ≡ Ok u → load_refused x ≡ 0
+number_none x u q = ap load_refused q
+
+-- what a survey found, where it refuses and where it does not
+module _ (c s b e o : List ℕ) (F : ℕ) (v : Findings) (h : Surveyed c s b e o v) where
+  pub refused_early : (x : LoadRefusal) → v.refusal ≡ Err x → (r : Result ⊤ LoadRefusal) → IsErrAnd r (λ f. f ≡ x) → load_refused r ≡ source_refusal (tokens class s) F
+  refused_early x q r p = passed_on r x p ∙ sym (number_is v.refusal x q) ∙ source_early s F (load_refused v.refusal) h.refusal_is (number_not v.refusal x q)
+
+  module _ (u : ⊤) (q : v.refusal ≡ Ok u) (t : Bool) (one : OneFrame s t) where
+    pub refused_six : t ≡ false → 6 ≡ source_refusal (tokens class s) F
+    refused_six f = source_six s F (load_refused v.refusal) h.refusal_is (number_none v.refusal u q) t one f
+
+    pub means_all : t ≡ true → (r : ℕ) → Means s F r → r ≡ source_refusal (tokens class s) F
+    means_all f r m = source_means s F (load_refused v.refusal) h.refusal_is (number_none v.refusal u q) t one f r m
 
 -- ---- What is kept
 
-pub kept_not : (r : ℕ) (c s b e o : List ℕ) (n m : ℕ) → (r ≡ 0 → ⊥) → KeptAt r c s b e o n m
+kept_not : (r : ℕ) (c s b e o : List ℕ) (n m : ℕ) → (r ≡ 0 → ⊥) → KeptAt r c s b e o n m
 kept_not r c s b e o n m f = record { is = λ z. absurd (f z) }
+
+pub kept_refused : (x : LoadRefusal) (c s b e o : List ℕ) (n m : ℕ) → KeptAt (load_refusal_number x) c s b e o n m
+kept_refused x c s b e o n m = kept_not (load_refusal_number x) c s b e o n m (refusal_positive x)
 
 pub kept_six : (c s b e o : List ℕ) (n m : ℕ) → KeptAt 6 c s b e o n m
 kept_six c s b e o n m = kept_not 6 c s b e o n m (λ z. omega arith)
@@ -184,38 +232,6 @@ pub not_bad : (s : List ℕ) (clean : Bool) → CleanSeen s clean → clean ≡ 
 not_bad s clean h e = h.none_bad e
 
 -- ---- All
-
-pub answer_last : (n : ℕ) → (n ≡ 0 → ⊥) → (n ≡ 1 → ⊥) → (n ≡ 2 → ⊥) → (n ≡ 3 → ⊥) → (n ≡ 4 → ⊥) → (n ≡ 5 → ⊥) → (n ≡ 6 → ⊥) → (n ≡ 7 → ⊥) → (n ≡ 8 → ⊥) → (n ≡ 9 → ⊥) → (n ≡ 10 → ⊥) → (n ≡ 11 → ⊥) → Numbered n LoadAnswer.WrittenFrames
-answer_last n a b c d e f g h i j k l = record { is = λ m. same n (up n 11 (up n 10 (up n 9 (up n 8 (up n 7 (up n 6 (up n 5 (up n 4 (up n 3 (up n 2 (up n 1 (up n 0 (omega arith) a) b) c) d) e) f) g) h) i) j) k) l) m }
-  where
-    up : (n k : ℕ) → k ≤ n → (n ≡ k → ⊥) → suc k ≤ n
-    up n k l d = omega arith
-
-    same : (n : ℕ) → 12 ≤ n → n ≤ 12 → 12 ≡ n
-    same n l m = omega arith
-
-tree_small : (names : List (List ℕ)) (o : Option (Slots Written)) (F : ℕ) → tree_refusal names o F ≤ 12
-unfolding tree_refusal meaning_refusal
-tree_small names none F = omega arith
-tree_small names (some ss) F = lowest_bound 6 _
-
-limits_small : (n F T : ℕ) → limits_refusal n F T ≤ 12
-unfolding limits_refusal
-limits_small n F T = go (between 3 256 F && leb T 256) (ltb 16384 n)
-  where
-    go : (t u : Bool) → (when t then (when u then 3 else 0) else 2) ≤ 12
-    go true true = omega arith
-    go true false = omega arith
-    go false u = omega arith
-
-source_small : (o : Option (List Token)) (F : ℕ) → source_refusal o F ≤ 12
-unfolding source_refusal
-source_small none F = omega arith
-source_small (some ts) F = go (ltb 16 (highest_nesting 0 ts)) (tree_small (name_table ts) (parse (symbols ts)) F)
-  where
-    go : (t : Bool) → tree_refusal (name_table ts) (parse (symbols ts)) F ≤ 12 → (when t then 5 else tree_refusal (name_table ts) (parse (symbols ts)) F) ≤ 12
-    go true l = omega arith
-    go false l = l
 
 module _ (m : Lengths) (s : List ℕ) (F T : ℕ) where
   refused : (n : ℕ) → arguments_refusal m s F T ≡ suc n → refusal m s F T ≡ suc n
@@ -243,11 +259,11 @@ module _ (m : Lengths) (s : List ℕ) (F T : ℕ) where
         go true x y = x
         go false x y = absurd (omega arith)
 
-    pub check_lengths : (a ≡ 0 → ⊥) → (r : LoadAnswer) → Numbered a r → load_number r ≡ refusal m s F T
+    check_lengths : (a ≡ 0 → ⊥) → a ≡ refusal m s F T
     unfolding arguments_refusal
-    check_lengths n r h =
+    check_lengths n =
         let x = lengths_wrong n in
-        h.is (omega (arith, x.1)) ∙ x.1 ∙ sym (refused 0 (lowest_here 1 _ _ (ap not x.0)))
+        x.1 ∙ sym (refused 0 (lowest_here 1 _ _ (ap not x.0)))
 
     module _ (z : a ≡ 0) (b : ℕ) (eb : b ≡ limits_refusal (length s) F T) where
       limits_are : (t u : Bool) → (between 3 256 F && leb T 256) ≡ t → ltb 16384 (length s) ≡ u → arguments_refusal m s F T ≡ (when t then (when u then 3 else 0) else 2)
@@ -260,17 +276,14 @@ module _ (m : Lengths) (s : List ℕ) (F T : ℕ) where
       unfolding limits_refusal
       arguments_are = limits_are (between 3 256 F && leb T 256) (ltb 16384 (length s)) refl refl ∙ sym eb
 
-      pub check_limits : (b ≡ 0 → ⊥) → (r : LoadAnswer) → Numbered b r → load_number r ≡ refusal m s F T
-      check_limits n r h = go b arguments_are n h small
+      check_limits : (b ≡ 0 → ⊥) → b ≡ refusal m s F T
+      check_limits n = go b arguments_are n
         where
-          small : b ≤ 12
-          small = rw eb (limits_small (length s) F T)
+          go : (k : ℕ) → arguments_refusal m s F T ≡ k → (k ≡ 0 → ⊥) → k ≡ refusal m s F T
+          go zero x n = absurd (n refl)
+          go (suc k) x n = sym (refused k x)
 
-          go : (k : ℕ) → arguments_refusal m s F T ≡ k → (k ≡ 0 → ⊥) → Numbered k r → k ≤ 12 → load_number r ≡ refusal m s F T
-          go zero x n h l = absurd (n refl)
-          go (suc k) x n h l = h.is l ∙ sym (refused k x)
-
-      pub check_short : b ≡ 0 → Short s
+      check_short : b ≡ 0 → Short s
       unfolding limits_refusal
       check_short y = go (between 3 256 F && leb T 256) (ltb 16384 (length s)) refl eb
         where
@@ -279,23 +292,21 @@ module _ (m : Lengths) (s : List ℕ) (F T : ℕ) where
           go true false x e = record { short = ltb-false 16384 (length s) x }
           go false u x e = absurd (omega arith)
 
-      pub check_all : b ≡ 0 → (n : ℕ) → n ≡ source_refusal (tokens class s) F → (r : LoadAnswer) → Numbered n r → load_number r ≡ refusal m s F T
-      check_all y n e r h = h.is (rw e (source_small (tokens class s) F)) ∙ e ∙ sym (passed (arguments_are ∙ y))
+      check_all : b ≡ 0 → (n : ℕ) → n ≡ source_refusal (tokens class s) F → n ≡ refusal m s F T
+      check_all y n e = e ∙ sym (passed (arguments_are ∙ y))
 
-module _ (c s b e o : List ℕ) (i j : ℕ) (n : ℕ) (r : LoadAnswer) (h : Numbered n r) where
-  kept_refused : n ≤ 12 → (n ≡ 0 → ⊥) → KeptAt (load_number r) c s b e o i j
-  kept_refused l f = kept_not (load_number r) c s b e o i j (λ z. f (sym (h.is l) ∙ z))
+  -- the same of the answers
+  module _ (x : Result ⊤ LoadRefusal) (ex : load_refused x ≡ lengths_refusal m) where
+    pub lengths_refuse : (e : LoadRefusal) → x ≡ Err e → (r : Result ⊤ LoadRefusal) → IsErrAnd r (λ f. f ≡ e) → load_refused r ≡ refusal m s F T
+    lengths_refuse e q r p = passed_on r e p ∙ sym (number_is x e q) ∙ check_lengths (load_refused x) ex (number_not x e q)
 
-  pub kept_lengths : (m : Lengths) → n ≡ lengths_refusal m → (n ≡ 0 → ⊥) → KeptAt (load_number r) c s b e o i j
-  unfolding lengths_refusal
-  kept_lengths m q f = kept_refused (rw q (go (right_lengths m))) f
-    where
-      go : (t : Bool) → (when t then 0 else 1) ≤ 12
-      go true = omega arith
-      go false = omega arith
+    module _ (u : ⊤) (z : x ≡ Ok u) (y : Result ⊤ LoadRefusal) (ey : load_refused y ≡ limits_refusal (length s) F T) where
+      pub limits_refuse : (e : LoadRefusal) → y ≡ Err e → (r : Result ⊤ LoadRefusal) → IsErrAnd r (λ f. f ≡ e) → load_refused r ≡ refusal m s F T
+      limits_refuse e q r p = passed_on r e p ∙ sym (number_is y e q) ∙ check_limits (load_refused x) ex (number_none x u z) (load_refused y) ey (number_not y e q)
 
-  pub kept_limits : (F T : ℕ) → n ≡ limits_refusal (length s) F T → (n ≡ 0 → ⊥) → KeptAt (load_number r) c s b e o i j
-  kept_limits F T q f = kept_refused (rw q (limits_small (length s) F T)) f
+      module _ (w : ⊤) (q : y ≡ Ok w) where
+        pub limits_short : Short s
+        limits_short = check_short (load_refused x) ex (number_none x u z) (load_refused y) ey (number_none y w q)
 
-  pub kept_all : (F : ℕ) → n ≡ source_refusal (tokens class s) F → KeptAt n c s b e o i j → KeptAt (load_number r) c s b e o i j
-  kept_all F q k = record { is = λ z. k.is (sym (h.is (rw q (source_small (tokens class s) F))) ∙ z) }
+        pub source_refuses : (n : ℕ) → n ≡ source_refusal (tokens class s) F → n ≡ refusal m s F T
+        source_refuses n e = check_all (load_refused x) ex (number_none x u z) (load_refused y) ey (number_none y w q) n e

@@ -1,5 +1,5 @@
 -- Document 01, the table, numbers 4 to 12, in the steps in which they are decided; 1 to 3 are in the crate `limits`. Assumes nothing.
-use Rattle.std.specs.Prelude.{◌≡◌, Bool, true, false, List, ℕ, ◌≤◌}
+use Rattle.std.specs.Prelude.{◌≡◌, Bool, true, false, List, ℕ}
 use Rattle.std.proofs.Math.Option.{some}
 use Rattle.framed.specs.Bytes.{class}
 use Rattle.framed.specs.Tokens.{Token, tokens}
@@ -7,8 +7,6 @@ use Rattle.framed.specs.Symbols.{symbols, name_table}
 use Rattle.framed.specs.Tree.{Written, Slots}
 use Rattle.framed.specs.Parse.{parse}
 use Rattle.framed.specs.Meaning.{meaning_refusal}
-use Rattle.framed.specs.Answers.{load_number}
-use Rattle.framed.specs.declared.LoadAnswer.{LoadAnswer}
 use Rattle.sweep.specs.Decides.{Decides}
 use Rattle.names.specs.Kept.{Kept, Leads}
 use Rattle.strings.specs.Places.{Placed}
@@ -20,10 +18,6 @@ use Rattle.survey.specs.declared.Findings.{Findings}
 -- 7 to 12, where the source is one frame
 pub record Means (s : List ℕ) (F r : ℕ) : Type 0 where
   pub is : (ts : List Token) (ss : Slots Written) → tokens class s ≡ some ts → parse (symbols ts) ≡ some ss → r ≡ meaning_refusal (name_table ts) ss F
-
--- an answer has the number, where there is such an answer
-pub record Numbered (n : ℕ) (r : LoadAnswer) : Type 0 where
-  pub is : n ≤ 12 → load_number r ≡ n
 
 -- where no frame was seen to be bad there is none
 pub record CleanSeen (s : List ℕ) (clean : Bool) : Type 0 where

@@ -5,58 +5,58 @@ ghost use Rattle.std.specs.Prelude.{◌≡◌, length};
 ghost use Rattle.framed.specs.Bytes.{class};
 ghost use Rattle.framed.specs.Tokens.{tokens};
 ghost use Rattle.framed.specs.Meaning.{source_refusal, refusal};
-ghost use Rattle.framed.specs.Answers.{load_number};
+ghost use Rattle.framed.specs.Answers.{load_refused};
 ghost use Rattle.sweep.specs.Decides.{Short, Decides};
 ghost use Rattle.token_cache.specs.Cache.{Cached, Unnoted};
 ghost use Rattle.names.specs.Kept.{Sized};
 ghost use Rattle.slots.specs.Own.{bad_tree};
 ghost use Rattle.limits.specs.Arguments.{lengths};
-ghost use Rattle.check_source.specs.Numbers.{CleanSeen, MeaningOf, Means, Numbered, KeptAt};
+ghost use Rattle.check_source.specs.Numbers.{CleanSeen, MeaningOf, Means, KeptAt};
 
-use framed::LoadAnswer;
+use framed::LoadRefusal;
 use survey::Findings;
+use token_cache::Tokens;
 
 // Some frame has a name twice or more than 16 slots. Where none was seen to be so, they are not looked at again.
-fn bad_frame(c: &[u64; 16384], s: &[u8], clean: bool) -> bool
-    requires cached { Cached c.now s.now }
-    requires seen { CleanSeen s.now clean }
-    ensures { Decides bad_tree s.now result }
+fn bad_frame(tokens: &Tokens, clean: bool) -> bool
+    requires { CleanSeen tokens.now.source.now clean }
+    ensures { Decides bad_tree tokens.now.source.now result }
 {
     if clean {
         return false;
     }
-    slots::bad_frame(c, s)
+    slots::bad_frame(tokens)
 }
 
-// 7 to 12, else 0, of a source of which v was found.
-fn meaning_refusal(c: &[u64; 16384], s: &[u8], v: Findings, f: u32) -> u32
-    requires cached { Cached c.now s.now }
-    requires found { MeaningOf s.now v }
-    ensures { Means s.now f result }
+// Numbers 7 to 12, of a source of which v was found.
+fn meaning_refusal(tokens: &Tokens, v: Findings, f: u32) -> Result<(), LoadRefusal>
+    requires { MeaningOf tokens.now.source.now v }
+    ensures { Means tokens.now.source.now f (load_refused result) }
 {
+    let s = tokens.source;
     let t = v.totals;
     if limits::outside_code(s, t) {
-        return 7;
+        return Err(LoadRefusal::OutsideCode);
     }
-    if bad_frame(c, s, v.clean) {
-        return 8;
+    if bad_frame(tokens, v.clean) {
+        return Err(LoadRefusal::BadFrame);
     }
     if limits::above_limit(s, t, v.names) {
-        return 9;
+        return Err(LoadRefusal::CountLimit);
     }
     if limits::far_up(s, t) {
-        return 10;
+        return Err(LoadRefusal::AboveProgram);
     }
-    if start::has_start(c, s) {
-        if limits::many_frames(s, t, f) {
-            return 12;
-        }
-        return 0;
+    if !start::has_start(tokens) {
+        return Err(LoadRefusal::NoStart);
     }
-    11
+    if limits::many_frames(s, t, f) {
+        return Err(LoadRefusal::WrittenFrames);
+    }
+    Ok(())
 }
 
-// 4 to 12, else 0. The names and the places of strings are kept, with how many there are in `count` and `strings`.
+// Numbers 4 to 12. The names and the places of strings are kept, with how many there are in `count` and `strings`.
 fn source_refusal(
     c: &mut [u64; 16384],
     s: &[u8],
@@ -67,48 +67,28 @@ fn source_refusal(
     count: &mut u32,
     strings: &mut u32,
     f: u32,
-) -> u32
+) -> Result<(), LoadRefusal>
     requires short { Short s.now }
     requires cached { Cached c.old s.now }
     requires unnoted { Unnoted c.old }
     requires sized { Sized begins.old ends.old hints.old }
     requires placed { length places.old ≡ 129 }
-    ensures number { result ≡ source_refusal (tokens class s.now) f }
+    ensures number { load_refused result ≡ source_refusal (tokens class s.now) f }
     ensures cached { Cached c.new s.now }
-    ensures kept { KeptAt result c.new s.now begins.new ends.new places.new count.new strings.new }
+    ensures kept { KeptAt (load_refused result) c.new s.now begins.new ends.new places.new count.new strings.new }
 {
     let v = survey::survey(c, s, begins, ends, hints, places);
     *count = v.names;
     *strings = v.strings;
-    let n = v.refusal;
-    if n != 0 {
-        return n;
+    v.refusal?;
+    let tokens = Tokens {
+        cache: &*c,
+        source: s,
+    };
+    if !grammar::one_frame(&tokens) {
+        return Err(LoadRefusal::NotOneFrame);
     }
-    if grammar::one_frame(c, s) {
-        return meaning_refusal(c, s, v, f);
-    }
-    6
-}
-
-// The answer with a number.
-fn answer(n: u32) -> LoadAnswer
-    ensures { Numbered n result }
-{
-    match n {
-        0 => LoadAnswer::Loaded,
-        1 => LoadAnswer::MemoryLength,
-        2 => LoadAnswer::LimitRange,
-        3 => LoadAnswer::SourceLength,
-        4 => LoadAnswer::NoToken,
-        5 => LoadAnswer::Nesting,
-        6 => LoadAnswer::NotOneFrame,
-        7 => LoadAnswer::OutsideCode,
-        8 => LoadAnswer::BadFrame,
-        9 => LoadAnswer::CountLimit,
-        10 => LoadAnswer::AboveProgram,
-        11 => LoadAnswer::NoStart,
-        _ => LoadAnswer::WrittenFrames,
-    }
+    meaning_refusal(&tokens, v, f)
 }
 
 // What load answers to these lengths of the four memories, source, F and T. The names and the places of strings of a source that loads are kept, with how many there are in `count` and `strings`.
@@ -127,23 +107,16 @@ pub fn check(
     strings: &mut u32,
     f: u32,
     t: u32,
-) -> LoadAnswer
+) -> Result<(), LoadRefusal>
     requires cached { Cached c.old s.now }
     requires unnoted { Unnoted c.old }
     requires sized { Sized begins.old ends.old hints.old }
     requires placed { length places.old ≡ 129 }
-    ensures number { load_number result ≡ refusal (lengths program heap literal text) s.now f t }
+    ensures number { load_refused result ≡ refusal (lengths program heap literal text) s.now f t }
     ensures cached { Cached c.new s.now }
-    ensures kept { KeptAt (load_number result) c.new s.now begins.new ends.new places.new count.new strings.new }
+    ensures kept { KeptAt (load_refused result) c.new s.now begins.new ends.new places.new count.new strings.new }
 {
-    let a = limits::lengths_refusal(program, heap, literal, text);
-    if a != 0 {
-        return answer(a);
-    }
-    let b = limits::limits_refusal(s.len(), f, t);
-    if b != 0 {
-        return answer(b);
-    }
-    let n = source_refusal(c, s, begins, ends, hints, places, count, strings, f);
-    answer(n)
+    limits::lengths_refusal(program, heap, literal, text)?;
+    limits::limits_refusal(s.len(), f, t)?;
+    source_refusal(c, s, begins, ends, hints, places, count, strings, f)
 }

@@ -83,9 +83,12 @@ module _ (c : Classes) (s : List ℕ) (m at : ℕ) where
       gone = w.gone ∙ rw (rest_at s i l) (after_yes (run_test c m) (byte s i) _ (rw (← is) (sym test ∙ e)));
     }
 
-  pub running_done : (i : ℕ) → Running c s m at i → length s ≤ i → RunEnds c s m at i
+  pub running_done : (i j : ℕ) → Running c s m at i → length s ≤ i → j ≡ max at (length s) → RunEnds c s m at j
   unfolding after
-  running_done i w l = record { begins = w.begins; inside = w.inside; rest_is = w.gone ∙ rw (rest_end s i l) }
+  running_done i j w l e = rw (e, ← same_end i w.begins w.inside l) (record { begins = w.begins; inside = w.inside; rest_is = w.gone ∙ rw (rest_end s i l) })
+    where
+      same_end : (i : ℕ) → at ≤ i → i ≤ max at (length s) → length s ≤ i → i ≡ max at (length s)
+      same_end i a b d = omega arith
 
 -- ---- The tests of runs
 

@@ -36,33 +36,20 @@ pub fn run_end(t: &[u8; 256], s: &[u8], at: usize, m: u8) -> usize
     requires { Classified t.now }
     ensures { RunEnds class s.now m at result }
 {
-    let mut i = at;
-    while i < s.len() {
-        let b = source::byte_at(s, i);
-        let inside = in_run(t, b, m);
-        if !inside {
+    for i in at..s.len() {
+        if !in_run(t, s[i], m) {
             return i;
         }
-        i += 1;
     }
-    i
+    at.max(s.len())
 }
 
 // Two byte strings are the same.
+#[tactic(auto, using(crate::proofs::Same::same_is))]
 pub fn is_word(tok: &[u8], w: &[u8]) -> bool
     ensures { result ≡ same tok.now w.now }
 {
-    if tok.len() != w.len() {
-        return false;
-    }
-    let mut i = 0;
-    while i < tok.len() {
-        if tok[i] != w[i] {
-            return false;
-        }
-        i += 1;
-    }
-    true
+    tok == w
 }
 
 // The kind of a word: a reserved word or a name.
@@ -90,17 +77,6 @@ pub fn kind_of_word(w: &[u8]) -> u32
     25
 }
 
-// The value of a digit.
-fn digit_value(b: u8) -> usize
-    ensures { result ≡ b - 48 }
-{
-    if b < 48 {
-        return 0;
-    }
-    let d = b - 48;
-    d as usize
-}
-
 // One more digit, unless the number is above every integer already.
 fn push_digit(n: usize, b: u8) -> usize
     ensures { result ≡ pushed n b }
@@ -108,8 +84,7 @@ fn push_digit(n: usize, b: u8) -> usize
     if 2147483648 < n {
         return n;
     }
-    let d = digit_value(b);
-    n * 10 + d
+    n * 10 + b.saturating_sub(48) as usize
 }
 
 // The number that digits write, or some number above every integer where it is one.
@@ -117,10 +92,8 @@ pub fn number_of(digits: &[u8]) -> usize
     ensures { result ≡ capped 0 digits.now }
 {
     let mut n = 0;
-    let mut i = 0;
-    while i < digits.len() {
+    for i in 0..digits.len() {
         n = push_digit(n, digits[i]);
-        i += 1;
     }
     n
 }

@@ -9,7 +9,7 @@ use native.Mathlib.Omega.{arith}
 use native.Mathlib.Nat.{mod-lt}
 use native.Mathlib.Decide.{ℕ_discrete, dec_lt}
 use lib.Dec.{eqb, ltb}
-use lib.ListN.{length, length-append, drop, set, drop_of_length-le}
+use lib.ListN.{length, length-append, drop, drop_of_length-le}
 use lib.Seq.{drop-cons}
 use borrow.Author.Tests.{ne_eqb, lt-ltb, eqb-true, eqb-false}
 use Rattle.framed.specs.Common.{when◌then◌else◌, any, same}

@@ -37,7 +37,7 @@ fn same_parts(s: &[u8], a: usize, p: usize, b: usize, q: usize) -> bool
     lexeme::is_word(v, w)
 }
 
-// The part from a up to p is one of the first n names kept.
+// The part from a up to p is one of the first n names kept, the last first.
 pub fn known(s: &[u8], begins: &[usize], ends: &[usize], n: usize, a: usize, p: usize) -> bool
     ensures { result ≡ any (same (part s.now a p)) (table_of s.now begins.now ends.now n) }
 {
@@ -62,11 +62,9 @@ fn hash(s: &[u8], a: usize, p: usize) -> usize
 {
     let w = token::token_bytes(s, a, p);
     let mut h = 0u32;
-    let mut i = 0;
-    while i < w.len() {
+    for i in 0..w.len() {
         let b = words::word(w, i);
         h = (h * 37 + (b as u32)) % 65536;
-        i += 1;
     }
     wide(h % 4096)
 }
@@ -86,15 +84,13 @@ pub fn hint(s: &[u8], hints: &[u8; 4096], a: usize, p: usize) -> u32
 pub fn number_of(s: &[u8], begins: &[usize], ends: &[usize], n: u32, w: &[u8]) -> u32
     ensures { result ≡ number_in (table_of s.now begins.now ends.now n) w.now }
 {
-    let mut k = 0;
-    while k < n {
+    for k in 0..n {
         let a = place(begins, wide(k));
         let p = place(ends, wide(k));
         let v = token::token_bytes(s, a, p);
         if lexeme::is_word(v, w) {
             return k;
         }
-        k += 1;
     }
     n
 }

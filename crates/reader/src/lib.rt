@@ -1,6 +1,5 @@
-// The token reader: a struct that holds the lent source and a position, which moves on behind each token, and thin functions over covered ones with plain
-// parameters. The borrow checker covers no function over such a struct, so each is proved by hand. Callers use `token_from`: its parameters are plain, and it
-// gives the position back.
+// The token reader: a struct that holds the lent source and a position, which moves on behind each token. Callers use `token_from`: its parameters are plain, and
+// it gives the position back.
 #![tactic(auto)]
 
 ghost use Rattle.std.specs.Prelude.{◌≡◌};
@@ -24,21 +23,6 @@ pub struct NextToken {
     pub at: usize,
 }
 
-// A reader of a source at a position.
-pub fn new<'a>(src: &'a [u8], at: usize) -> Reader<'a>
-    ensures { (result.src ≡ src.entry) × (result.at ≡ at) }
-{
-    Reader { src, at }
-}
-
-// The token at the reader's position, by the table of classes.
-fn next<'t, 'a>(t: &'t [u8; 256], r: Reader<'a>) -> TokenRead
-    requires { Classified t.now }
-    ensures { TokenAt class r.entry.src.now r.entry.at result }
-{
-    token::token_in(t, r.src, r.at)
-}
-
 // The position behind what was read at a position: a token's end; the same position where no token was read.
 fn position_after(k: TokenRead, at: usize) -> usize
     ensures { result ≡ position_after k at }
@@ -50,13 +34,24 @@ fn position_after(k: TokenRead, at: usize) -> usize
     }
 }
 
-// The reader behind what was read at its position.
-fn advance<'a>(r: Reader<'a>, k: TokenRead) -> Reader<'a>
-    ensures { (result.src ≡ r.entry.src) × (result.at ≡ position_after k r.entry.at) }
-{
-    Reader {
-        src: r.src,
-        at: position_after(k, r.at),
+impl<'a> Reader<'a> {
+    // A reader of a source at a position.
+    pub fn new(src: &'a [u8], at: usize) -> Reader<'a>
+        ensures { (result.src ≡ src.entry) × (result.at ≡ at) }
+    {
+        Reader { src, at }
+    }
+
+    // The token at the reader's position, by the table of classes; the reader moves on behind it.
+    fn next(&mut self, t: &[u8; 256]) -> TokenRead
+        requires { Classified t.now }
+        ensures read { TokenAt class self.old.src.now self.old.at result }
+        ensures kept { self.new.src ≡ self.old.src }
+        ensures moved { self.new.at ≡ position_after result self.old.at }
+    {
+        let token = token::token_in(t, self.src, self.at);
+        self.at = position_after(token, self.at);
+        token
     }
 }
 
@@ -86,8 +81,7 @@ pub fn token_from(t: &[u8; 256], s: &[u8], at: usize) -> NextToken
     requires { Classified t.now }
     ensures { ReadFrom s.now at result }
 {
-    let r = new(s, at);
-    let token = next(t, r);
-    let q = advance(r, token);
-    with_position(token, q.at)
+    let mut r = Reader::new(s, at);
+    let token = r.next(t);
+    with_position(token, r.at)
 }

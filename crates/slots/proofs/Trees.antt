@@ -12,7 +12,7 @@ use Rattle.framed.specs.Tokens.{Fixed, Operator}
 use Rattle.framed.specs.Symbols.{Symbol}
 use Rattle.framed.specs.Tree.{Written, Base, Expression, Slots, Instruction, Code, ◌then◌}
 use Rattle.framed.specs.Grammar.{Names⊢, Ups⊢, Path⊢, Base⊢, Expression⊢, Frame⊢, Slots⊢, Instruction⊢, Code⊢}
-use Rattle.framed.specs.Meaning.{frame, path, operator, slot_names}
+use Rattle.framed.specs.Meaning.{slot_names}
 use Rattle.token.specs.Reading.{operator_kind, fixed_kind}
 use Rattle.scan.specs.Scan.{depth_after}
 use Rattle.sweep.specs.Kinds.{kind_of}

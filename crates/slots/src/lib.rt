@@ -6,50 +6,35 @@ ghost use Rattle.framed.specs.Common.{any, same};
 ghost use Rattle.source.specs.Positions.{part};
 ghost use Rattle.scan.specs.Scan.{NotHuge};
 ghost use Rattle.sweep.specs.Decides.{Decides};
-ghost use Rattle.token_cache.specs.Cache.{Cached};
 ghost use Rattle.names.specs.Kept.{table_of};
 ghost use Rattle.slots.specs.Own.{closes, names_slot, plain, Added, bad_tree};
 ghost use Rattle.slots.specs.Checks.{clear_after, Checks, Opens};
 
 use token::TokenRead;
+use token_cache::Tokens;
 
 // A token of kind k closes the frame.
+#[tactic(auto, unfolding(crate::specs::Own::closes))]
 pub fn closes(depth: usize, k: u32) -> bool
     ensures { result ≡ closes depth k }
 {
-    if k == 13 {
-        return depth == 0;
-    }
-    if k == 15 {
-        return depth == 0;
-    }
-    false
+    (k == 13 || k == 15) && depth == 0
 }
 
 // A token of kind k, after one of kind `last`, is the name of a slot of the frame.
+#[tactic(auto, unfolding(crate::specs::Own::names_slot))]
 pub fn names_slot(depth: usize, last: u32, k: u32) -> bool
     ensures { result ≡ names_slot depth last k }
 {
-    if k != 25 {
-        return false;
-    }
-    if last == 7 {
-        return false;
-    }
-    depth == 0
+    k == 25 && last != 7 && depth == 0
 }
 
 // A token of kind k is neither a bracket nor a name.
+#[tactic(auto, unfolding(crate::specs::Own::plain))]
 fn plain(k: u32) -> bool
     ensures { result ≡ plain k }
 {
-    if k < 12 {
-        return true;
-    }
-    if k < 16 {
-        return false;
-    }
-    k != 25
+    k < 12 || (16 <= k && k != 25)
 }
 
 // A slot's name, from a up to p, is one of the n names kept.
@@ -64,10 +49,7 @@ fn repeated(
 ) -> bool
     ensures { result ≡ (slot && any (same (part s.now a p)) (table_of s.now begins.now ends.now n)) }
 {
-    if slot {
-        return names::known(s, begins, ends, n, a, p);
-    }
-    false
+    slot && names::known(s, begins, ends, n, a, p)
 }
 
 // Keeps a slot's name: how many are kept after it.
@@ -111,10 +93,10 @@ fn clear_after(clear: usize, at: usize, k: u32, end: usize) -> usize
 }
 
 // The frame whose slots begin there.
-fn bad_slots(c: &[u64; 16384], s: &[u8], from: usize) -> Checked
-    requires { Cached c.now s.now }
-    ensures { Checks s.now from result }
+fn bad_slots(tokens: &Tokens, from: usize) -> Checked
+    ensures { Checks tokens.now.source.now from result }
 {
+    let s = tokens.source;
     let mut begins = [0usize; 17];
     let mut ends = [0usize; 17];
     let mut n = 0;
@@ -123,7 +105,7 @@ fn bad_slots(c: &[u64; 16384], s: &[u8], from: usize) -> Checked
     let mut clear = from;
     let mut at = from;
     while at < s.len() {
-        match token_cache::token_in(c, s, at) {
+        match tokens.token_at(at) {
             TokenRead::End => {
                 return Checked { bad: false, clear };
             }
@@ -159,12 +141,11 @@ fn bad_slots(c: &[u64; 16384], s: &[u8], from: usize) -> Checked
 }
 
 // A token of kind k opens such a frame; where it opens none, no frame begins before its end.
-fn opens_bad(c: &[u64; 16384], s: &[u8], k: u32, end: usize) -> Checked
-    requires { Cached c.now s.now }
-    ensures { Opens s.now k end result }
+fn opens_bad(tokens: &Tokens, k: u32, end: usize) -> Checked
+    ensures { Opens tokens.now.source.now k end result }
 {
     if k == 12 {
-        return bad_slots(c, s, end);
+        return bad_slots(tokens, end);
     }
     Checked {
         bad: false,
@@ -173,13 +154,12 @@ fn opens_bad(c: &[u64; 16384], s: &[u8], k: u32, end: usize) -> Checked
 }
 
 // Some frame has a name twice or more than 16 slots.
-pub fn bad_frame(c: &[u64; 16384], s: &[u8]) -> bool
-    requires { Cached c.now s.now }
-    ensures { Decides bad_tree s.now result }
+pub fn bad_frame(tokens: &Tokens) -> bool
+    ensures { Decides bad_tree tokens.now.source.now result }
 {
     let mut at = 0;
-    while at < s.len() {
-        match token_cache::token_in(c, s, at) {
+    while at < tokens.source.len() {
+        match tokens.token_at(at) {
             TokenRead::End => {
                 return false;
             }
@@ -187,7 +167,7 @@ pub fn bad_frame(c: &[u64; 16384], s: &[u8]) -> bool
                 return false;
             }
             TokenRead::Token(k, _begin, end, _word) => {
-                let r = opens_bad(c, s, k, end);
+                let r = opens_bad(tokens, k, end);
                 if r.bad {
                     return true;
                 }

@@ -5,10 +5,14 @@ use mathlib.Core.List.{List, [], ◌∷◌}
 use Prim.Native.Nat.{ℕ, zero, suc, ◌+◌, ◌-◌, ◌<◌, ◌≤◌}
 use native.Mathlib.Numerals.{add-one}
 use native.Mathlib.Omega.{arith}
-use lib.ListN.{length, take, drop, length-drop, drop_of_length-le}
+use lib.ListN.{length, take, drop, get_or, length-drop, drop_of_length-le}
 use lib.Seq.{drop-cons, length-take-le, take_all}
 use Rattle.framed.specs.Common.{starts, past_first}
 use Rattle.source.specs.Positions.{rest, byte, part}
+
+pub byte_is : (s : List ℕ) (i : ℕ) → get_or s i 0 ≡ byte s i
+unfolding byte
+byte_is s i = refl
 
 pub rest_at : (s : List ℕ) (i : ℕ) → i < length s → rest s i ≡ byte s i ∷ rest s (i + 1)
 unfolding rest byte

@@ -125,13 +125,13 @@ pub fn class_in(t: &[u8; 256], b: u8) -> u8
     requires { Classified t.now }
     ensures { result ≡ class b }
 {
-    let i = b as usize;
-    t[i]
+    t[b as usize]
 }
 
 // The byte at a position, and 0 past the end.
+#[tactic(auto, unfolding(crate::specs::Positions::byte))]
 pub fn byte_at(s: &[u8], at: usize) -> u8
     ensures { result ≡ byte s.now at }
 {
-    if at < s.len() { s[at] } else { 0 }
+    s.get(at).copied().unwrap_or(0)
 }

@@ -55,9 +55,12 @@ module _ (c : Classes) (s : List ℕ) (at : ℕ) where
       gone = w.gone ∙ ap (skip_comment c) first_byte ∙ when_in_line c b (rest s (i + 1)) (ne_eqb b 10 e);
     }
 
-  pub comment_done : (i : ℕ) → Comment c s at i → length s ≤ i → CommentEnds c s at i
+  pub comment_done : (i j : ℕ) → Comment c s at i → length s ≤ i → j ≡ max at (length s) → CommentEnds c s at j
   unfolding skip
-  comment_done i w l = record { begins = w.begins; inside = w.inside; ends = source_end l; gone = w.gone ∙ rw (rest_end s i l) }
+  comment_done i j w l e = rw (e, ← same_end i w.begins w.inside l) (record { begins = w.begins; inside = w.inside; ends = source_end l; gone = w.gone ∙ rw (rest_end s i l) })
+    where
+      same_end : (i : ℕ) → at ≤ i → i ≤ max at (length s) → length s ≤ i → i ≡ max at (length s)
+      same_end i a b d = omega arith
 
 -- ---- One space or comment
 

@@ -9,15 +9,12 @@ ghost use Rattle.spaces.specs.Spaces.{CommentEnds, CanSkip, SkipsOne, Skips};
 fn comment_end(s: &[u8], at: usize) -> usize
     ensures { CommentEnds class s.now at result }
 {
-    let mut i = at;
-    while i < s.len() {
-        let b = source::byte_at(s, i);
-        if b == 10 {
+    for i in at..s.len() {
+        if s[i] == 10 {
             return i + 1;
         }
-        i += 1;
     }
-    i
+    at.max(s.len())
 }
 
 // The position after one space or one comment; the position itself where none stands there.

@@ -13,14 +13,15 @@ use Rattle.framed.specs.Symbols.{Symbol, number_in, numbered, symbols, name_tabl
 use Rattle.framed.specs.Tree.{Written, Base, Expression, Slots}
 use Rattle.framed.specs.Grammar.{Path⊢, Base⊢, Expression⊢, Frame⊢, Slots⊢, Source}
 use Rattle.framed.specs.Paths.{Place, outside_code, in_code, within_slot, program_place}
-use Rattle.framed.specs.Meaning.{frame, path, outside, misplaced, base_pieces, expression_pieces, slots_pieces, pieces, slot_of, frame_in, code_in, main_start, is_none}
+use Rattle.framed.specs.Meaning.{outside, misplaced, base_pieces, expression_pieces, slots_pieces, pieces, slot_of, frame_in, code_in, main_start, is_none}
 use Rattle.framed.proofs.General.{some_inj}
 use Rattle.framed.proofs.ParseExact.{parse_sound}
 use Rattle.source.specs.Positions.{rest}
 use Rattle.token.specs.Reading.{token_kind, fixed_kind}
 use Rattle.sweep.proofs.Lists.{any_both}
 use Rattle.sweep.specs.Kinds.{kind_of, front_kind}
-use Rattle.grammar.specs.declared.Found.{Found}
+use Rattle.std.specs.Prelude.{Option as Perhaps, None, Some}
+use Rattle.std.specs.Option.{is_some}
 use Rattle.slots.specs.Own.{Own, own, bytes_of}
 use Rattle.slots.proofs.Numbers.{equal_numbers, Known, table_knows}
 use Rattle.slots.proofs.Pairs.{Pairs, pairs}
@@ -310,27 +311,34 @@ start_found ts ss d e =
 
 -- ---- The answer
 
-begun : {s : List ℕ} {p : ℕ} (o : Option (List Token)) → Begins s o (Found.Done p) → is_none o ≡ false
+begun : {s : List ℕ} {p : ℕ} (o : Option (List Token)) → Begins s o (Some p) → is_none o ≡ false
 unfolding is_none
 begun o (here e) = refl
 
-not_begun : {s : List ℕ} (o : Option (List Token)) → Begins s o Found.Refused → is_none o ≡ true
+not_begun : {s : List ℕ} (o : Option (List Token)) → Begins s o None → is_none o ≡ true
 unfolding is_none
 not_begun o nowhere = refl
 
-module _ (s : List ℕ) (x : Found) (mx : Leads start_value s 0 x) where
-  pub has_none : x ≡ Found.Refused → HasStart s false
+module _ (s : List ℕ) (x : Perhaps ℕ) (mx : Leads start_value s 0 x) where
+  pub has_none : x ≡ None → HasStart s false
   unfolding rest
   has_none e = record { is = λ ts ss f g h. sym (ap not (sym (start_found ts ss (parse_sound (symbols ts) g) h) ∙ not_begun _ ((stop start_value (after_kind 28) s 0 (rw e at mx)).is ts f))) }
 
-  module _ (p : ℕ) (e : x ≡ Found.Done p) (y : Found) (my : Leads (after_kind 28) s p y) where
+  module _ (p : ℕ) (e : x ≡ Some p) (y : Perhaps ℕ) (my : Leads (after_kind 28) s p y) where
     chain : Leads (λ ts. and_then (start_value ts) (after_kind 28)) s 0 y
     chain = go_on start_value (after_kind 28) s 0 p y (rw e at mx) my
 
-    pub has_other : y ≡ Found.Refused → HasStart s false
+    has_other : y ≡ None → HasStart s false
     unfolding rest
     has_other i = record { is = λ ts ss f g h. sym (ap not (sym (start_found ts ss (parse_sound (symbols ts) g) h) ∙ not_begun _ ((rw i at chain).is ts f))) }
 
-    pub has_code : (q : ℕ) → y ≡ Found.Done q → HasStart s true
+    has_code : (q : ℕ) → y ≡ Some q → HasStart s true
     unfolding rest
     has_code q i = record { is = λ ts ss f g h. sym (ap not (sym (start_found ts ss (parse_sound (symbols ts) g) h) ∙ begun _ ((rw i at chain).is ts f))) }
+
+    pub has_last : (r : Bool) → r ≡ is_some y → HasStart s r
+    has_last r q = go y refl
+      where
+        go : (z : Perhaps ℕ) → y ≡ z → HasStart s r
+        go None e = rw (q ∙ ap is_some e) (has_other e)
+        go (Some n) e = rw (q ∙ ap is_some e) (has_code n e)

@@ -11,7 +11,7 @@ use Rattle.framed.specs.Parse.{parse}
 use Rattle.framed.specs.Meaning.{is_none, main_start, misplaced, pieces}
 use Rattle.source.specs.Positions.{rest}
 use Rattle.token.specs.Reading.{token_kind}
-use Rattle.grammar.specs.declared.Found.{Found}
+use Rattle.std.specs.Prelude.{Option as Perhaps, None, Some}
 use Rattle.slots.specs.Own.{Own, own, own_slots, bytes_of}
 
 unfoldable pub and_then : Option (List Token) → (List Token → Option (List Token)) → Option (List Token)
@@ -43,12 +43,12 @@ unfoldable pub start_value : List Token → Option (List Token)
 start_value ts = and_then (and_then (and_then (opening ts) (value (bytes "Main"))) opening) (value (bytes "start"))
 
 -- the position where given tokens begin, where there are any
-pub data Begins (s : List ℕ) : Option (List Token) → Found → Type 0 where
-  nowhere : Begins s none Found.Refused
-  here : {p : ℕ} {ts : List Token} → tokens class (rest s p) ≡ some ts → Begins s (some ts) (Found.Done p)
+pub data Begins (s : List ℕ) : Option (List Token) → Perhaps ℕ → Type 0 where
+  nowhere : Begins s none None
+  here : {p : ℕ} {ts : List Token} → tokens class (rest s p) ≡ some ts → Begins s (some ts) (Some p)
 
 -- where there are tokens from a position on, the answer is where f leads from there
-pub record Leads (f : List Token → Option (List Token)) (s : List ℕ) (at : ℕ) (r : Found) : Type 0 where
+pub record Leads (f : List Token → Option (List Token)) (s : List ℕ) (at : ℕ) (r : Perhaps ℕ) : Type 0 where
   pub is : (ts : List Token) → tokens class (rest s at) ≡ some ts → Begins s (f ts) r
 
 -- where the source is one frame, with no path or operator outside code (number 7), the answer says whether Main.start is there (number 11 where it is false)

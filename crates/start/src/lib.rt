@@ -4,61 +4,54 @@
 ghost use Rattle.std.specs.Prelude.{◌≡◌, ◌&&◌};
 ghost use Rattle.framed.specs.Common.{same};
 ghost use Rattle.source.specs.Positions.{part};
-ghost use Rattle.token_cache.specs.Cache.{Cached};
 ghost use Rattle.start.specs.Find.{after_kind, opening, find, value, start_value, Leads, HasStart};
 
-use grammar::Found;
 use token::TokenRead;
+use token_cache::Tokens;
 
 // Where a token of kind k ends.
-fn take(c: &[u64; 16384], s: &[u8], at: usize, k: u32) -> Found
-    requires { Cached c.now s.now }
-    ensures { Leads (after_kind k) s.now at result }
+fn take(tokens: &Tokens, at: usize, k: u32) -> Option<usize>
+    ensures { Leads (after_kind k) tokens.now.source.now at result }
 {
-    let t = token_cache::token_in(c, s, at);
+    let t = tokens.token_at(at);
     let TokenRead::Token(j, _begin, end, _word) = t else {
-        return Found::Refused;
+        return None;
     };
     if j == k {
-        return Found::Done(end);
+        return Some(end);
     }
-    Found::Refused
+    None
 }
 
 // The token is the name of a slot of the frame, and its bytes are these.
 fn is_slot(s: &[u8], slot: bool, a: usize, p: usize, name: &[u8]) -> bool
     ensures { result ≡ (slot && same name.now (part s.now a p)) }
 {
-    if slot {
-        let w = token::token_bytes(s, a, p);
-        return lexeme::is_word(name, w);
-    }
-    false
+    slot && lexeme::is_word(name, token::token_bytes(s, a, p))
 }
 
 // Where the name of the first slot so named ends, in the frame whose slots begin there.
-fn find_slot(c: &[u64; 16384], s: &[u8], from: usize, name: &[u8]) -> Found
-    requires { Cached c.now s.now }
-    ensures { Leads (find name.now 0 0) s.now from result }
+fn find_slot(tokens: &Tokens, from: usize, name: &[u8]) -> Option<usize>
+    ensures { Leads (find name.now 0 0) tokens.now.source.now from result }
 {
     let mut depth = 0;
     let mut last = 0;
     let mut at = from;
-    while at < s.len() {
-        match token_cache::token_in(c, s, at) {
+    while at < tokens.source.len() {
+        match tokens.token_at(at) {
             TokenRead::End => {
-                return Found::Refused;
+                return None;
             }
             TokenRead::NoToken => {
-                return Found::Refused;
+                return None;
             }
             TokenRead::Token(k, begin, end, _word) => {
                 if slots::closes(depth, k) {
-                    return Found::Refused;
+                    return None;
                 }
                 let slot = slots::names_slot(depth, last, k);
-                if is_slot(s, slot, begin, end, name) {
-                    return Found::Done(end);
+                if is_slot(tokens.source, slot, begin, end, name) {
+                    return Some(end);
                 }
                 depth = scan::depth_after(depth, k);
                 last = k;
@@ -66,69 +59,42 @@ fn find_slot(c: &[u64; 16384], s: &[u8], from: usize, name: &[u8]) -> Found
             }
         }
     }
-    Found::Refused
+    None
 }
 
 // Where the value of the first slot so named begins.
-fn slot_value(c: &[u64; 16384], s: &[u8], at: usize, name: &[u8]) -> Found
-    requires { Cached c.now s.now }
-    ensures { Leads (value name.now) s.now at result }
+fn slot_value(tokens: &Tokens, at: usize, name: &[u8]) -> Option<usize>
+    ensures { Leads (value name.now) tokens.now.source.now at result }
 {
-    let x = find_slot(c, s, at, name);
-    let Found::Done(p) = x else {
-        return Found::Refused;
-    };
-    take(c, s, p, 6)
+    let p = find_slot(tokens, at, name)?;
+    take(tokens, p, 6)
 }
 
 // Where the slots of the frame written there begin.
-fn frame_slots(c: &[u64; 16384], s: &[u8], at: usize) -> Found
-    requires { Cached c.now s.now }
-    ensures { Leads opening s.now at result }
+fn frame_slots(tokens: &Tokens, at: usize) -> Option<usize>
+    ensures { Leads opening tokens.now.source.now at result }
 {
-    let x = take(c, s, at, 0);
-    let Found::Done(p) = x else {
-        return Found::Refused;
-    };
-    let y = take(c, s, p, 5);
-    let Found::Done(q) = y else {
-        return Found::Refused;
-    };
-    take(c, s, q, 12)
+    let p = take(tokens, at, 0)?;
+    let q = take(tokens, p, 5)?;
+    take(tokens, q, 12)
 }
 
 // Where the value of slot start in the frame in slot Main begins.
-fn start_value(c: &[u64; 16384], s: &[u8]) -> Found
-    requires { Cached c.now s.now }
-    ensures { Leads start_value s.now 0 result }
+fn start_value(tokens: &Tokens) -> Option<usize>
+    ensures { Leads start_value tokens.now.source.now 0 result }
 {
-    let x = frame_slots(c, s, 0);
-    let Found::Done(p) = x else {
-        return Found::Refused;
-    };
-    let y = slot_value(c, s, p, b"Main");
-    let Found::Done(q) = y else {
-        return Found::Refused;
-    };
-    let z = frame_slots(c, s, q);
-    let Found::Done(u) = z else {
-        return Found::Refused;
-    };
-    slot_value(c, s, u, b"start")
+    let p = frame_slots(tokens, 0)?;
+    let q = slot_value(tokens, p, b"Main")?;
+    let u = frame_slots(tokens, q)?;
+    slot_value(tokens, u, b"start")
 }
 
 // The program frame has a slot Main with a frame that has a slot start with a code.
-pub fn has_start(c: &[u64; 16384], s: &[u8]) -> bool
-    requires { Cached c.now s.now }
-    ensures { HasStart s.now result }
+pub fn has_start(tokens: &Tokens) -> bool
+    ensures { HasStart tokens.now.source.now result }
 {
-    let x = start_value(c, s);
-    let Found::Done(p) = x else {
+    let Some(p) = start_value(tokens) else {
         return false;
     };
-    let y = take(c, s, p, 28);
-    let Found::Done(_end) = y else {
-        return false;
-    };
-    true
+    take(tokens, p, 28).is_some()
 }

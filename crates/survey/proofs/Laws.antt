@@ -1,5 +1,6 @@
 -- One reading of a source: what is kept of the names, and all that is kept and counted, from token to token. Assumes nothing.
 use mathlib.Core.Path.{◌≡◌, refl, ap, ◌∙◌, subst}
+use Rattle.std.specs.Prelude.{Result, ⊤}
 use mathlib.Core.Bool.{Bool, true, false}
 use mathlib.Core.List.{List}
 use Prim.Native.Nat.{ℕ, max, ◌+◌, ◌<◌, ◌≤◌}
@@ -11,6 +12,8 @@ use borrow.Author.Tests.{eq-eqb, ne_eqb, eqb-false}
 use Rattle.framed.specs.Common.{when◌then◌else◌}
 use Rattle.framed.specs.Bytes.{class}
 use Rattle.framed.specs.Tokens.{tokens}
+use Rattle.framed.specs.Answers.{load_refused}
+use Rattle.framed.specs.declared.LoadRefusal.{LoadRefusal}
 use Rattle.words.specs.Words.{set_word}
 use Rattle.words.proofs.Laws.{set_size}
 use Rattle.token.specs.Reading.{TokenAt}
@@ -28,14 +31,13 @@ use Rattle.names.proofs.Numbers.{kept_noted, kept_here, kept_stays}
 use Rattle.names.proofs.Notes.{leads_start, leads_other, leads_name}
 use Rattle.strings.specs.Places.{Placed, Stored, Counted}
 use Rattle.strings.proofs.Laws.{Placing, placing_start, placing_again, placing_end, placing_none, placing_done, placing_small}
-use Rattle.sums.specs.Totals.{Totalled, Room, Counts, nothing, sums_of}
+use Rattle.sums.specs.Totals.{Totalled, Room, Counts, nothing}
 use Rattle.sums.specs.declared.Tally.{Tally}
-use Rattle.sums.specs.declared.Totals.{Totals}
 use Rattle.sums.proofs.Laws.{Tallying, tally_start, tally_end, tally_none, tally_room, tally_again, tally_done}
 use Rattle.slots.specs.Own.{bad_tree}
 use Rattle.frames.specs.Levels.{Extends, Named, Watches}
 use Rattle.frames.proofs.Watching.{Watching, watch_start, watch_again, watch_end, watch_none, watch_done}
-use Rattle.survey.specs.Survey.{count_after, CanTake, Taken, findings_of, Surveyed}
+use Rattle.survey.specs.Survey.{count_after, CanTake, Taken, Surveyed}
 use Rattle.survey.specs.Survey as survey
 use Rattle.survey.specs.declared.Findings.{Findings}
 
@@ -200,10 +202,6 @@ module _ (n j : ℕ) where
   unfolding count_after
   count_same f = rw (ne_eqb j n f)
 
-pub found_is : (x n m : ℕ) (clean : Bool) (t u : Totals) → u ≡ t → record { refusal = x; names = n; strings = m; clean = clean; totals = u } ≡ findings_of x n m clean t
-unfolding findings_of
-found_is x n m clean t u q = ap (findings_of x n m clean) q
-
 -- ---- Everything
 
 -- a token was read at the position, and the next position is `behind`
@@ -261,33 +259,35 @@ module _ (c s b e hints places counts own : List ℕ) (clean : Bool) (n m depth 
   survey_room h l = tally_room s at tally last i.tallying h l
 
   -- at the end of the tokens
-  module _ (x : ℕ) (v : Findings) (is : v ≡ findings_of x n m clean (sums_of tally)) where
-    finished : (c' : List ℕ) → Cached c' s → Leads c' s b e n → x ≡ tokens_refusal (tokens class s) → Kept s b e n → Placed s places m → ((u : Totals) → u ≡ sums_of tally → Totalled s u) →
-        (clean ≡ true → Decides bad_tree s false) → Surveyed c' s b e places v
-    unfolding findings_of
-    finished c' cached led ex kept placed totalled clean_is = rw is (record {
+  module _ (x : Result ⊤ LoadRefusal) where
+    abbrev findings : Findings
+    findings = record { refusal = x; names = n; strings = m; clean = clean; totals = tally.totals }
+
+    finished : (c' : List ℕ) → Cached c' s → Leads c' s b e n → load_refused x ≡ tokens_refusal (tokens class s) → Kept s b e n → Placed s places m → Totalled s tally.totals →
+        (clean ≡ true → Decides bad_tree s false) → Surveyed c' s b e places findings
+    finished c' cached led ex kept placed totalled clean_is = record {
       refusal_is = ex;
       cached = cached;
       kept = kept;
       led = led;
       placed = placed;
-      totalled = totalled (sums_of tally) refl;
+      totalled = totalled;
       clean_is = clean_is;
-    })
+    }
 
-    pub survey_done : length s ≤ at → x ≡ last_refusal high depth → Surveyed c s b e places v
+    pub survey_done : length s ≤ at → load_refused x ≡ last_refusal high depth → Surveyed c s b e places findings
     survey_done l ex =
-        finished c i.cached i.naming.led (scan_done class s at depth high i.scanning x l ex) (ended c s b e hints n at i.naming (λ k. keeping_done s b e hints n at k l))
+        finished c i.cached i.naming.led (scan_done class s at depth high i.scanning (load_refused x) l ex) (ended c s b e hints n at i.naming (λ k. keeping_done s b e hints n at k l))
         (placing_done s places m at i.placing l) (tally_done s at tally last i.tallying l) (watch_done s b e n counts own clean depth last at i.watching l)
 
     module _ (r : TokenRead) (found : TokenAt class s at r) where
-      pub survey_end : r ≡ TokenRead.End → x ≡ last_refusal high depth → (c' : List ℕ) → Cached c' s → NotesFrom c c' at 0 → Surveyed c' s b e places v
+      pub survey_end : r ≡ TokenRead.End → load_refused x ≡ last_refusal high depth → (c' : List ℕ) → Cached c' s → NotesFrom c c' at 0 → Surveyed c' s b e places findings
       survey_end h ex c' cached notes =
-          finished c' cached (leads_other i.naming.led notes) (scan_end class s at depth high i.scanning r found x ex h)
+          finished c' cached (leads_other i.naming.led notes) (scan_end class s at depth high i.scanning r found (load_refused x) ex h)
           (ended c s b e hints n at i.naming (λ k. keeping_end s b e hints n at k r found h)) (placing_end s places m at i.placing r found h)
           (tally_end s at tally last i.tallying r found h) (watch_end s b e n counts own clean depth last at i.watching r found h)
 
-      pub survey_none : r ≡ TokenRead.NoToken → x ≡ 4 → Surveyed c s b e places v
+      pub survey_none : r ≡ TokenRead.NoToken → load_refused x ≡ 4 → Surveyed c s b e places findings
       survey_none h ex =
           finished c i.cached i.naming.led (ex ∙ scan_four class s at depth high i.scanning r found h)
           (ended c s b e hints n at i.naming (λ k. keeping_none s b e hints n at k r found h)) (placing_none s places m at i.placing r found h)

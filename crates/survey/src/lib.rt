@@ -3,18 +3,18 @@
 
 ghost use Rattle.std.specs.Prelude.{◌≡◌, length};
 ghost use Rattle.sweep.specs.Decides.{Short};
-ghost use Rattle.sums.specs.Totals.{sums_of};
 ghost use Rattle.token_cache.specs.Cache.{Cached, Unnoted};
 ghost use Rattle.names.specs.Kept.{Sized};
-ghost use Rattle.survey.specs.Survey.{count_after, CanTake, Taken, Few, findings_of, Surveyed};
+ghost use Rattle.survey.specs.Survey.{count_after, CanTake, Taken, Few, Surveyed};
 
-use sums::{Tally, Totals};
+use framed::LoadRefusal;
+use sums::Totals;
 use token::TokenRead;
 
-// What is found: the number that refuses the source as tokens, or 0; how many names and strings are kept; whether no frame has a name twice or more than 16 slots, as far as that was seen (true is certain, false decides nothing); the sums.
+// What is found: whether a number refuses the source as tokens; how many names and strings are kept; whether no frame has a name twice or more than 16 slots, as far as that was seen (true is certain, false decides nothing); the sums.
 #[derive(Clone, Copy)]
 pub struct Findings {
-    pub refusal: u32,
+    pub refusal: Result<(), LoadRefusal>,
     pub names: u32,
     pub strings: u32,
     pub clean: bool,
@@ -62,20 +62,6 @@ fn count_after(n: u32, j: u32) -> u32
     n
 }
 
-// All that was found, with the sums of a tally.
-fn found(refusal: u32, names: u32, strings: u32, clean: bool, t: Tally) -> Findings
-    ensures { result ≡ findings_of refusal names strings clean (sums_of t) }
-{
-    let totals = sums::sums_of(t);
-    Findings {
-        refusal,
-        names,
-        strings,
-        clean,
-        totals,
-    }
-}
-
 // Reads the source token by token, each from the position that the reader gave back, up to its end or to bytes that form no token. The names are kept, and the places of the first 129 strings.
 pub fn survey(
     c: &mut [u64; 16384],
@@ -109,17 +95,29 @@ pub fn survey(
         match token {
             TokenRead::End => {
                 token_cache::store_end(c, s, at);
-                return found(scan::verdict(high, depth), n, m, clean, tally);
+                return Findings {
+                    refusal: scan::verdict(high, depth),
+                    names: n,
+                    strings: m,
+                    clean,
+                    totals: tally.totals,
+                };
             }
             TokenRead::NoToken => {
-                return found(4, n, m, clean, tally);
+                return Findings {
+                    refusal: Err(LoadRefusal::NoToken),
+                    names: n,
+                    strings: m,
+                    clean,
+                    totals: tally.totals,
+                };
             }
             TokenRead::Token(k, begin, end, word) => {
                 let j = take(c, s, begins, ends, hints, n, at, k, begin, end, word);
                 clean = frames::watch(&mut counts, &mut own, clean, depth, last, k, j);
                 n = count_after(n, j);
                 m = strings::keep(places, m, at, k);
-                high = scan::larger(high, depth);
+                high = high.max(depth);
                 depth = scan::depth_after(depth, k);
                 tally = sums::count(tally, last, k);
                 last = k;
@@ -127,5 +125,11 @@ pub fn survey(
             }
         }
     }
-    found(scan::verdict(high, depth), n, m, clean, tally)
+    Findings {
+        refusal: scan::verdict(high, depth),
+        names: n,
+        strings: m,
+        clean,
+        totals: tally.totals,
+    }
 }

@@ -191,11 +191,7 @@ pub fn token_at(s: &[u8], at: usize) -> TokenRead
     ensures { TokenAt class s.now at result }
 {
     let t = source::classes();
-    let i = spaces::skip(&t, s, at);
-    if s.len() <= i {
-        return TokenRead::End;
-    }
-    read_at(&t, s, i)
+    token_in(&t, s, at)
 }
 
 // The bytes of a token that begins and ends there, as a part of the source.

@@ -1,15 +1,15 @@
-use Rattle.check_source.proofs.Laws.{check_lengths, check_limits, check_short, check_all, kept_lengths, kept_limits, kept_all}
-use borrow.Author.Rules.{rules}
+use Rattle.check_source.proofs.Laws.{lengths_refuse, limits_refuse, limits_short, source_refuses}
 use Rattle.check_source.proofs.check.Goals as goal
 
-pub returns-then-a-ne0 : goal.returns-then-a-ne0
-returns-then-a-ne0 c = record { number = search check_lengths; cached = search rules; kept = search kept_lengths }
+pub returns-in_err-lengths_refusal-clause-number : goal.returns-in_err-lengths_refusal-clause-number
+returns-in_err-lengths_refusal-clause-number c = lengths_refuse _ _ _ _ _ c.lengths_refusal.ensures _ c.in_err-lengths_refusal.was _ c.from_residual.ensures.1
 
-pub returns-then-b-ne0 : goal.returns-then-b-ne0
-returns-then-b-ne0 c = record { number = search check_limits; cached = search rules; kept = search kept_limits }
+pub returns-in_err-limits_refusal-clause-number : goal.returns-in_err-limits_refusal-clause-number
+returns-in_err-limits_refusal-clause-number c =
+    limits_refuse _ _ _ _ _ c.lengths_refusal.ensures _ c.in_ok-lengths_refusal.was _ c.limits_refusal.ensures _ c.in_err-limits_refusal.was _ c.from_residual-in_err-limits_refusal.ensures.1
 
-pub source_refusal-n-requires : goal.source_refusal-n-requires
-source_refusal-n-requires c = record { short = search check_short; cached = search rules; unnoted = search rules; sized = search rules; placed = search rules }
+pub source_refusal-requires-clause-short : goal.source_refusal-requires-clause-short
+source_refusal-requires-clause-short c = limits_short _ _ _ _ _ c.lengths_refusal.ensures _ c.in_ok-lengths_refusal.was _ c.limits_refusal.ensures _ c.in_ok-limits_refusal.was
 
-pub returns : goal.returns
-returns c = record { number = search check_all; cached = search rules; kept = search (kept_all, c.answer-2.ensures, c.source_refusal-n.ensures.number, c.source_refusal-n.ensures.kept) }
+pub returns-clause-number : goal.returns-clause-number
+returns-clause-number c = source_refuses _ _ _ _ _ c.lengths_refusal.ensures _ c.in_ok-lengths_refusal.was _ c.limits_refusal.ensures _ c.in_ok-limits_refusal.was _ c.source_refusal.ensures.number

@@ -13,11 +13,11 @@ returns-then-above_limit c = search means_9
 pub returns-then-far_up : goal.returns-then-far_up
 returns-then-far_up c = search means_10
 
+pub returns-then-not-has_start : goal.returns-then-not-has_start
+returns-then-not-has_start c = search means_11
+
 pub returns-then-many_frames : goal.returns-then-many_frames
 returns-then-many_frames c = search means_12
 
-pub returns-then-has_start : goal.returns-then-has_start
-returns-then-has_start c = search means_0
-
 pub returns : goal.returns
-returns c = search means_11
+returns c = search means_0

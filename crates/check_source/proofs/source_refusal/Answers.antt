@@ -1,15 +1,12 @@
-use Rattle.check_source.proofs.Laws.{source_early, source_six, source_means, kept_not, kept_six, kept_here, found_meaning}
-use borrow.Author.Rules.{rules}
+use borrow.Author.Tests.{not-true, not-false}
+use Rattle.check_source.proofs.Laws.{refused_early, refused_six, means_all}
 use Rattle.check_source.proofs.source_refusal.Goals as goal
 
-pub returns-then-n-ne0 : goal.returns-then-n-ne0
-returns-then-n-ne0 c = record { number = search source_early; cached = search rules; kept = search kept_not }
+pub returns-in_err-v-clause-number : goal.returns-in_err-v-clause-number
+returns-in_err-v-clause-number c = refused_early _ _ _ _ _ _ _ c.survey-v.ensures _ c.in_err-v.was _ c.from_residual.ensures.1
 
-pub meaning_refusal-requires : goal.meaning_refusal-requires
-meaning_refusal-requires c = record { cached = search rules; found = search found_meaning }
+pub returns-then-not-one_frame-clause-number : goal.returns-then-not-one_frame-clause-number
+returns-then-not-one_frame-clause-number c = refused_six _ _ _ _ _ _ _ c.survey-v.ensures _ c.in_ok-v.was _ c.one_frame.ensures (search not-true)
 
-pub returns-then-one_frame : goal.returns-then-one_frame
-returns-then-one_frame c = record { number = search source_means; cached = search rules; kept = search kept_here }
-
-pub returns : goal.returns
-returns c = record { number = search source_six; cached = search rules; kept = search kept_six }
+pub returns-clause-number : goal.returns-clause-number
+returns-clause-number c = means_all _ _ _ _ _ _ _ c.survey-v.ensures _ c.in_ok-v.was _ c.one_frame.ensures (search not-false) _ c.meaning_refusal.ensures

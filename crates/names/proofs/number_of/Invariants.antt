@@ -1,9 +1,6 @@
 use Rattle.names.proofs.Numbers.{Seeking}
-use Prim.Native.Nat.{◌-◌}
 use Rattle.names.proofs.number_of.Given as goal
 
 abbrev pub invariant-loop-k : goal.invariant-loop-k
 invariant-loop-k l = Seeking l.s l.begins l.ends l.n l.w l.k
 
-abbrev pub decreases-loop-k : goal.decreases-loop-k
-decreases-loop-k l = l.n - l.k

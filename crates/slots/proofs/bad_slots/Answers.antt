@@ -2,7 +2,6 @@ use Rattle.slots.proofs.Laws.{collect_start, collect_end, collect_none, collect_
 use Prim.Native.Nat.{◌<◌}
 use native.Mathlib.Omega.{arith}
 use Rattle.token.proofs.Answers.{token_less}
-use borrow.Author.Rules.{rules}
 use Rattle.slots.proofs.bad_slots.Goals as goal
 
 pub loop-at-init : goal.loop-at-init
@@ -34,7 +33,7 @@ returns-then-n-gt16 c = let m : 16 < c.add_slot-n.result = omega arith in search
 
 pub depth_after-depth-requires : goal.depth_after-depth-requires
 depth_after-depth-requires c =
-    search (collect_shallow, rules, c.loop-at-test.true, c.loop-at.invariant.0, c.shared_slice_known-1.given)
+    let h : c.loop-at.at < 18446744073709551615 = omega arith in search (collect_shallow, c.loop-at.invariant.0)
 
 pub loop-at-smaller : goal.loop-at-smaller
 loop-at-smaller c = search token_less

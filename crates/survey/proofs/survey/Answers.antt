@@ -55,7 +55,7 @@ loop-at-smaller c = search (read_less, c.token_from-next.ensures, c.in-Token.is,
 pub loop-at-preserved : goal.loop-at-preserved
 loop-at-preserved c =
     survey_again _ _ _ _ _ _ _ _ _ _ _ _ _ _ _ _ c.loop-at.invariant (search c.requires.short) (search c.loop-at-test.true)
-    _ _ _ _ _ _ _ _ _ c.take-j.ensures.cached c.take-j.ensures.taken _ _ _ c.watch-clean.ensures _ c.count_after-n.ensures _ _ c.keep-m.ensures _ c.larger-high.ensures _ c.depth_after-depth.ensures _ c.count-tally.ensures
+    _ _ _ _ _ _ _ _ _ c.take-j.ensures.cached c.take-j.ensures.taken _ _ _ c.watch-clean.ensures _ c.count_after-n.ensures _ _ c.keep-m.ensures _ c.max-high.ensures _ c.depth_after-depth.ensures _ c.count-tally.ensures
     _ (search (stands_here, c.token_from-next.ensures, c.in-Token.is))
 
 pub shape_of-begins : goal.shape_of-begins
