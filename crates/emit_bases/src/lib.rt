@@ -2,12 +2,12 @@
 #![tactic(auto)]
 
 ghost use Rattle.std.specs.Prelude.{◌≡◌};
-ghost use Rattle.names.specs.Kept.{table_of};
-ghost use Rattle.emit_names.specs.Table.{Ready};
+ghost use Rattle.emit_names.specs.Lent.{table_in};
 ghost use Rattle.grammar.specs.Runs.{Sees};
 ghost use Rattle.emit_paths.specs.Emits.{Emits, PathHere};
 ghost use Rattle.emit_bases.specs.Bases.{kind_entry, path_base};
 
+use emit_names::Emission;
 use emit_steps::{Next, Place};
 use grammar::Seen;
 use tables::ExpressionEntry;
@@ -23,25 +23,13 @@ fn path_entry(k: u32, j: u32, length: u32) -> ExpressionEntry
 }
 
 // A path as expression x; its first token is t.
-pub fn path_base(
-    c: &[u64; 16384],
-    s: &[u8],
-    begins: &[usize],
-    ends: &[usize],
-    hints: &[u8; 4096],
-    count: u32,
-    p: &mut [u32],
-    place: Place,
-    x: u32,
-    n: Next,
-    t: Seen,
-) -> Next
-    requires { Ready c.now s.now begins.now ends.now count × Sees s.now n.at t }
-    ensures { Emits (PathHere place) (path_base place x) s.now (table_of s.now begins.now ends.now count) n p.old p.new result }
+pub fn path_base(e: &Emission, p: &mut [u32], place: Place, x: u32, n: Next, t: Seen) -> Next
+    requires { Sees e.now.tokens.source.now n.at t }
+    ensures { Emits (PathHere place) (path_base place x) e.now.tokens.source.now (table_in e.now) n p.old p.new result }
 {
-    let m = emit_paths::emit_path(c, s, begins, ends, hints, count, p, place, n, t);
-    let d = emit_steps::less(m.paths, n.paths);
-    let e = path_entry(t.kind, n.paths, d);
-    table_updates::set_expression(p, x, e);
+    let m = emit_paths::emit_path(e, p, place, n, t);
+    let d = m.paths.saturating_sub(n.paths);
+    let entry = path_entry(t.kind, n.paths, d);
+    table_updates::set_expression(p, x, entry);
     m
 }

@@ -6,7 +6,7 @@ use Prim.Native.Nat.{ℕ, suc, ◌+◌, ◌*◌, ◌-◌, ◌<◌, ◌≤◌}
 use native.Mathlib.Omega.{arith}
 use native.Mathlib.Numerals.{add-one}
 use lib.IntN.{ℤ, pos, negsuc}
-use lib.Dec.{ltb}
+use lib.Dec.{ltb, leb}
 use lib.ListN.{length}
 use borrow.Author.Tests.{eq-eqb, ne_eqb, ltb-true, ltb-false, le-leb, lt-leb}
 use mir.Syntax.{w32}
@@ -28,7 +28,7 @@ use Rattle.token.specs.Reading.{signed, fixed_kind, token_kind}
 use Rattle.token.specs.Reading as Reading
 use Rattle.sweep.specs.Kinds.{kind_of, front_kind}
 use Rattle.grammar.specs.Runs.{KindAt, Sees, Meets, Outcome, Any}
-use Rattle.grammar.specs.declared.Found.{Found}
+use Rattle.std.specs.Prelude.{Option, None, Some}
 use Rattle.grammar.specs.declared.Seen.{Seen}
 use Rattle.grammar.proofs.Combine.{by_this}
 use Rattle.names.specs.Kept.{table_of}
@@ -187,7 +187,7 @@ module _ (s : List ℕ) (x a : ℕ) (n : Next) (p : List ℕ) (t : Seen) (h : Se
 
 -- ---- An operator after a base
 
-module _ (s : List ℕ) (at : ℕ) (x : Found) (m : Meets a_base 1 s at x) where
+module _ (s : List ℕ) (at : ℕ) (x : Option ℕ) (m : Meets a_base 1 s at x) where
   outcome : (table : List (List ℕ)) (k c : ℕ) (ts : List Token) (b : Base Written) (vs : List Symbol) → Tokens⊢ class (rest s at) ts → Base⊢ (numbered table k c ts) b vs →
       (front_kind vs ≡ 7 → ⊥) → Outcome Any s table (parsed b vs) x
   unfolding fixed_number
@@ -203,31 +203,27 @@ module _ (s : List ℕ) (at : ℕ) (x : Found) (m : Meets a_base 1 s at x) where
       no_dot : this Fixed.dot vs ≡ fails
       no_dot = (by_this Fixed.dot (omega arith)).leaves vs (λ a b. nd (equal (front_kind vs) a b))
 
-  pub after_none : ((k : ℕ) → x ≡ Found.Done k → ⊥) → OperatorAfter s at false
+  pub after_none : ((k : ℕ) → x ≡ Some k → ⊥) → OperatorAfter s at false
   after_none o = record { is = λ table k c ts b vs d g nd. absurd (go x (outcome table k c ts b vs d g nd) o) }
     where
-      go : {table : List (List ℕ)} {b : Base Written} {vs : List Symbol} (y : Found) → Outcome Any s table (parsed b vs) y → ((k : ℕ) → y ≡ Found.Done k → ⊥) → ⊥
-      go Found.Refused (Outcome.refused e) o = fails≢parsed (sym e)
-      go (Found.Done p) z o = (o p refl)
+      go : {table : List (List ℕ)} {b : Base Written} {vs : List Symbol} (y : Option ℕ) → Outcome Any s table (parsed b vs) y → ((k : ℕ) → y ≡ Some k → ⊥) → ⊥
+      go None (Outcome.refused e) o = fails≢parsed (sym e)
+      go (Some p) z o = (o p refl)
 
-  module _ (p : ℕ) (e : x ≡ Found.Done p) (k : ℕ) (h : KindAt s p k) where
-    kind_after : (table : List (List ℕ)) (b : Base Written) (vs : List Symbol) → Outcome Any s table (parsed b vs) (Found.Done p) → front_kind vs ≡ k
+  module _ (p : ℕ) (e : x ≡ Some p) (k : ℕ) (h : KindAt s p k) where
+    kind_after : (table : List (List ℕ)) (b : Base Written) (vs : List Symbol) → Outcome Any s table (parsed b vs) (Some p) → front_kind vs ≡ k
     kind_after table b vs (Outcome.done i c {ts} q d f) = ap front_kind (Exact.rest_inj f) ∙ h.is table i c ts d
 
     after_is : (t : Bool) → t ≡ is_operator k → OperatorAfter s at t
     after_is t f = record { is = λ table i c ts b vs d g nd. f ∙ ap is_operator (sym (kind_after table b vs (rw e at (outcome table i c ts b vs d g nd)))) }
 
-    pub after_low : k < 16 → OperatorAfter s at false
+    pub after_low : k < 16 → OperatorAfter s at (leb 16 k)
     unfolding is_operator
-    after_low l = after_is false (rw (lt-leb 16 k l))
+    after_low l = after_is (leb 16 k) (rw (lt-leb 16 k l))
 
-    pub after_high : 24 < k → OperatorAfter s at false
+    pub after_high : 16 ≤ k → OperatorAfter s at (leb k 24)
     unfolding is_operator
-    after_high l = after_is false (rw (le-leb 16 k (omega arith), lt-leb k 24 l))
-
-    pub after_one : 16 ≤ k → k ≤ 24 → OperatorAfter s at true
-    unfolding is_operator
-    after_one l g = after_is true (rw (le-leb 16 k l, le-leb k 24 g))
+    after_high l = after_is (leb k 24) (rw (le-leb 16 k l))
 
 -- ---- One token
 

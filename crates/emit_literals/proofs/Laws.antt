@@ -39,11 +39,11 @@ module _ (l₀ : List ℕ) (k : ℕ) (w l : List ℕ) (i : ℕ) (c : Writing l�
       ap (λ (v : List ℕ). write_literal_bytes v k i l) (drop-cons w i 0 h)
       ∙ ap (λ (j : ℕ). write_literal_bytes (drop j w) k (i + 1) (set_literal_byte l k i (get_or w i 0))) (sym (add-one i))
 
-  pub writing_again : i < length w → (v : ℕ) → v ≡ word w i → (m : ℕ) → m ≡ k → (l' : List ℕ) → l' ≡ set_word l (64 * m + i) v → Writing l₀ k w l' (i + 1)
-  unfolding set_literal_byte word
-  writing_again h v ev m em l' el = record {
+  pub writing_again : i < length w → (m : ℕ) → m ≡ k → (l' : List ℕ) → l' ≡ set_word l (64 * m + i) (get_or w i 0) → Writing l₀ k w l' (i + 1)
+  unfolding set_literal_byte
+  writing_again h m em l' el = record {
     size = ap length el ∙ set_size l _ _ ∙ c.size;
-    is = rw (el, em, ev) (sym (bytes_on h) ∙ c.is);
+    is = rw (el, em) (sym (bytes_on h) ∙ c.is);
   }
 
   pub writing_done : length w ≤ i → l ≡ write_literal_bytes w k 0 l₀

@@ -50,11 +50,11 @@ module _ (p₀ : List ℕ) (k : ℕ) (w p : List ℕ) (i : ℕ) (c : Writing p�
       ap (λ (v : List ℕ). write_name_bytes v k i p) (drop-cons w i 0 l)
       ∙ ap (λ (j : ℕ). write_name_bytes (drop j w) k (i + 1) (set_name_byte p k i (get_or w i 0))) (sym (add-one i))
 
-  pub writing_again : i < length w → (v : ℕ) → v ≡ word w i → (m : ℕ) → m ≡ k → (p' : List ℕ) → p' ≡ set_word p (65 + 17 * m + i) v → Writing p₀ k w p' (i + 1)
-  unfolding set_name_byte word
-  writing_again l v ev m em p' ep = record {
+  pub writing_again : i < length w → (m : ℕ) → m ≡ k → (p' : List ℕ) → p' ≡ set_word p (65 + 17 * m + i) (get_or w i 0) → Writing p₀ k w p' (i + 1)
+  unfolding set_name_byte
+  writing_again l m em p' ep = record {
     size = ap length ep ∙ set_size p _ _ ∙ c.size;
-    is = rw (ep, em, ev) (sym (bytes_on l) ∙ c.is);
+    is = rw (ep, em) (sym (bytes_on l) ∙ c.is);
   }
 
   pub writing_done : length w ≤ i → p ≡ write_name_bytes w k 0 p₀

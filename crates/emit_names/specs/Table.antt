@@ -1,5 +1,6 @@
 -- docs/LAYOUT.md, program words, names: the names kept of a source, and the number of a name. Assumes nothing.
 use Rattle.std.specs.Prelude.{◌≡◌, List, ◌∷◌, ℕ, length}
+use Rattle.std.proofs.Props.{props}
 use Rattle.framed.specs.Bytes.{class}
 use Rattle.framed.specs.Tokens.{Token, Tokens⊢}
 use Rattle.framed.specs.Symbols.{number_in}
@@ -8,6 +9,7 @@ use Rattle.words.specs.Words.{word}
 use Rattle.token.specs.Reading.{TokenAt}
 use Rattle.token.specs.declared.TokenRead.{TokenRead}
 use Rattle.token_cache.specs.Cache.{Cached}
+use Rattle.token_cache.specs.Single.{Cached-prop}
 use Rattle.table_updates.specs.Updates.{set_name_length}
 use Rattle.emission.specs.Emit.{write_name_bytes}
 use Rattle.names.specs.Kept.{table_of, Numbered, Leads}
@@ -21,6 +23,9 @@ pub record Ready (c s begins ends : List ℕ) (n : ℕ) : Type 0 where
   pub cached : Cached c s
   pub numbered : Numbered s begins ends n
   pub led : Leads c s begins ends n
+
+pub Ready-prop : (c s begins ends : List ℕ) (n : ℕ) → IsProp (Ready c s begins ends n)
+Ready-prop c s begins ends n = Prim.hlevel (props, Cached-prop)
 
 -- a name stands at the position, from a up to p
 pub record NameAt (s : List ℕ) (at a p : ℕ) : Type 0 where

@@ -17,7 +17,7 @@ use Rattle.source.specs.Positions.{rest, part}
 use Rattle.token.specs.Reading.{fixed_kind, token_kind}
 use Rattle.sweep.specs.Kinds.{kind_of, front_kind}
 use Rattle.grammar.specs.Runs.{Sees}
-use Rattle.grammar.specs.declared.Found.{Found}
+use Rattle.std.specs.Prelude.{Some}
 use Rattle.grammar.specs.declared.Seen.{Seen}
 use Rattle.grammar.proofs.Paths.{moved}
 use Rattle.names.specs.Kept.{table_of}
@@ -143,7 +143,7 @@ seen_two s at t x j e k q y l = record {
 
 -- a token of some kind moves the position on
 pub seen_moves : (s : List ℕ) (at : ℕ) (t : Seen) → Sees s at t → t.kind < 29 → at < t.end
-seen_moves s at t x l = (moved (Found.Done t.end) (x.end_is t.kind t.kind (omega arith) (omega arith) l).on refl).0
+seen_moves s at t x l = (moved (Some t.end) (x.end_is t.kind t.kind (omega arith) (omega arith) l).on refl).0
 
 -- the number of the name ahead
 pub number_ahead : (s b e : List ℕ) (count : ℕ) (n : Next) (m r : ℕ) (us : List Symbol) → NumberAt s b e count n.at r → Ahead s (table_of s b e count) n (Symbol.name m ∷ us) → r ≡ m

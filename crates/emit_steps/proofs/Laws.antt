@@ -15,19 +15,14 @@ use Rattle.token.specs.declared.TokenRead.{TokenRead}
 use Rattle.token.proofs.KindNumbers.{kind_is}
 use Rattle.token.proofs.Unique.{token_inj}
 use Rattle.token.proofs.Answers.{spot_of}
-use Rattle.emit_steps.specs.declared.Next.{Next}
 use Rattle.emit_steps.specs.declared.Place.{Place}
-use Rattle.emit_steps.specs.Steps.{one_more, take_expression, take_instruction, take_string, take_code, inner_slot, first_kind, Past, Pass, PassTwo, PassFrame}
+use Rattle.emit_steps.specs.Steps.{one_more, inner_slot, first_kind, Past, Pass, PassTwo, PassFrame}
 
 -- ---- Numbers and places
 
 pub more_one : (n : ℕ) → n < 4294967295 → n + 1 ≡ one_more n
 unfolding one_more
-more_one n l = rw (lt-ltb n 4294967295 l)
-
-pub more_none : (n : ℕ) → 4294967295 ≤ n → n ≡ one_more n
-unfolding one_more
-more_none n l = rw (le-ltb n 4294967295 l)
+more_one n l = omega arith
 
 -- ---- One token
 
@@ -167,18 +162,3 @@ module _ (q : Place) (n : ℕ) where
         ◌≡◌ {A = Place} (record { in_code = false; depth = q.depth + 1; names = set q.names i n }) (inner_slot q n)
     unfolding inner_slot
     slot_deeper l i ei = rw (e, lt-ltb q.depth 16 l, ei)
-
--- ---- A number is taken
-
-module _ (n : Next) (at x : ℕ) where
-  pub expression_taken : x ≡ one_more n.expressions → ◌≡◌ {A = Next} (record { at = at; expressions = x; instructions = n.instructions; paths = n.paths; strings = n.strings; codes = n.codes }) (take_expression n at)
-  expression_taken e = rw e
-
-  pub string_taken : x ≡ one_more n.strings → ◌≡◌ {A = Next} (record { at = at; expressions = n.expressions; instructions = n.instructions; paths = n.paths; strings = x; codes = n.codes }) (take_string n at)
-  string_taken e = rw e
-
-  pub code_taken : x ≡ one_more n.codes → ◌≡◌ {A = Next} (record { at = at; expressions = n.expressions; instructions = n.instructions; paths = n.paths; strings = n.strings; codes = x }) (take_code n at)
-  code_taken e = rw e
-
-pub instruction_taken : (n : Next) (x : ℕ) → x ≡ one_more n.instructions → ◌≡◌ {A = Next} (record { at = n.at; expressions = n.expressions; instructions = x; paths = n.paths; strings = n.strings; codes = n.codes }) (take_instruction n)
-instruction_taken n x e = rw e

@@ -1,6 +1,6 @@
 -- docs/LAYOUT.md, program words: the numbers that emission takes while it reads the source, and document 01, "Limits and paths": the place of a part, as the
 -- functions that emit keep them. Assumes nothing.
-use Rattle.std.specs.Prelude.{◌≡◌, true, false, List, [], ◌∷◌, ℕ, ◌+◌, ◌<◌, ◌≤◌, ltb, take, set}
+use Rattle.std.specs.Prelude.{◌≡◌, true, false, List, [], ◌∷◌, ℕ, ◌+◌, ◌<◌, ◌≤◌, ltb, min, take, set}
 use Rattle.framed.specs.Common.{when◌then◌else◌}
 use Rattle.framed.specs.Bytes.{class}
 use Rattle.framed.specs.Tokens.{Token, Tokens⊢}
@@ -13,7 +13,7 @@ use Rattle.emit_steps.specs.declared.Place.{Place}
 
 -- one more, as far as a word goes
 unfoldable pub one_more : ℕ → ℕ
-one_more n = when ltb n 4294967295 then n + 1 else n
+one_more n = min (n + 1) 4294967295
 
 -- the numbers without the position and without strings, which the tree's numbers do not count
 abbrev pub numbers : Next → Numbers

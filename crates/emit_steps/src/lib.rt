@@ -1,12 +1,12 @@
 // What the functions that emit a tree share: where emission stands, where a part is written, and steps over tokens.
 #![tactic(auto)]
 
-ghost use Rattle.std.specs.Prelude.{◌≡◌, ◌-◌};
-ghost use Rattle.emit_steps.specs.Steps.{one_more, go_to, take_expression, take_instruction, take_string, take_code, inner_slot, inner_code};
+ghost use Rattle.std.specs.Prelude.{◌≡◌};
+ghost use Rattle.emit_steps.specs.Steps.{go_to, take_expression, take_instruction, take_string, take_code, inner_slot, inner_code};
 ghost use Rattle.emit_steps.specs.Steps.{Pass, PassTwo, PassFrame};
-ghost use Rattle.token_cache.specs.Cache.{Cached};
 
 use token::TokenRead;
+use token_cache::Tokens;
 use words::wide;
 
 // Where emission stands: the position, and the numbers of the next expression, instruction, path name, string literal and code.
@@ -20,6 +20,60 @@ pub struct Next {
     pub codes: u32,
 }
 
+// A number is taken as far as a word goes.
+impl Next {
+    // The position is another one.
+    pub fn go_to(self, at: usize) -> Next
+        ensures { result ≡ go_to self at }
+    {
+        Next { at, ..self }
+    }
+
+    // The next number is taken, and the position is another one.
+    #[tactic(auto, unfolding(crate::specs::Steps::one_more))]
+    pub fn one_expression(self, at: usize) -> Next
+        ensures { result ≡ take_expression self at }
+    {
+        Next {
+            at,
+            expressions: self.expressions.saturating_add(1),
+            ..self
+        }
+    }
+
+    #[tactic(auto, unfolding(crate::specs::Steps::one_more))]
+    pub fn one_instruction(self) -> Next
+        ensures { result ≡ take_instruction self }
+    {
+        Next {
+            instructions: self.instructions.saturating_add(1),
+            ..self
+        }
+    }
+
+    #[tactic(auto, unfolding(crate::specs::Steps::one_more))]
+    pub fn one_string(self, at: usize) -> Next
+        ensures { result ≡ take_string self at }
+    {
+        Next {
+            at,
+            strings: self.strings.saturating_add(1),
+            ..self
+        }
+    }
+
+    #[tactic(auto, unfolding(crate::specs::Steps::one_more))]
+    pub fn one_code(self, at: usize) -> Next
+        ensures { result ≡ take_code self at }
+    {
+        Next {
+            at,
+            codes: self.codes.saturating_add(1),
+            ..self
+        }
+    }
+}
+
 // Where a part is written: in code or outside, and the names of the frame that holds it, from the program frame down.
 #[derive(Clone, Copy)]
 pub struct Place {
@@ -28,143 +82,44 @@ pub struct Place {
     pub names: [u32; 16],
 }
 
-// ---- Numbers
-
-// One more, as far as a word goes.
-pub fn one_more(n: u32) -> u32
-    ensures { result ≡ one_more n }
-{
-    if n < 4294967295 {
-        return n + 1;
+impl Place {
+    // The place of what is written in a frame that stands in slot n. A place has room for 16 names.
+    pub fn within_slot(self, n: u32) -> Place
+        ensures { result ≡ inner_slot self n }
+    {
+        if self.in_code {
+            return self;
+        }
+        if 16 <= self.depth {
+            return self;
+        }
+        let mut names = self.names;
+        names[wide(self.depth)] = n;
+        Place {
+            in_code: false,
+            depth: self.depth + 1,
+            names,
+        }
     }
-    n
-}
 
-// a less b, 0 where b is more.
-pub fn less(a: u32, b: u32) -> u32
-    ensures { result ≡ a - b }
-{
-    if a < b {
-        return 0;
-    }
-    a - b
-}
-
-// The position is another one.
-pub fn go_to(n: Next, at: usize) -> Next
-    ensures { result ≡ go_to n at }
-{
-    Next {
-        at: at,
-        expressions: n.expressions,
-        instructions: n.instructions,
-        paths: n.paths,
-        strings: n.strings,
-        codes: n.codes,
-    }
-}
-
-// The next number is taken, and the position is another one.
-pub fn one_expression(n: Next, at: usize) -> Next
-    ensures { result ≡ take_expression n at }
-{
-    let x = one_more(n.expressions);
-    Next {
-        at: at,
-        expressions: x,
-        instructions: n.instructions,
-        paths: n.paths,
-        strings: n.strings,
-        codes: n.codes,
-    }
-}
-
-pub fn one_instruction(n: Next) -> Next
-    ensures { result ≡ take_instruction n }
-{
-    let i = one_more(n.instructions);
-    Next {
-        at: n.at,
-        expressions: n.expressions,
-        instructions: i,
-        paths: n.paths,
-        strings: n.strings,
-        codes: n.codes,
-    }
-}
-
-pub fn one_string(n: Next, at: usize) -> Next
-    ensures { result ≡ take_string n at }
-{
-    let k = one_more(n.strings);
-    Next {
-        at: at,
-        expressions: n.expressions,
-        instructions: n.instructions,
-        paths: n.paths,
-        strings: k,
-        codes: n.codes,
-    }
-}
-
-pub fn one_code(n: Next, at: usize) -> Next
-    ensures { result ≡ take_code n at }
-{
-    let k = one_more(n.codes);
-    Next {
-        at: at,
-        expressions: n.expressions,
-        instructions: n.instructions,
-        paths: n.paths,
-        strings: n.strings,
-        codes: k,
-    }
-}
-
-// ---- Places
-
-// The place of what is written in a frame that stands in slot n. A place has room for 16 names.
-pub fn within_slot(place: Place, n: u32) -> Place
-    ensures { result ≡ inner_slot place n }
-{
-    if place.in_code {
-        return place;
-    }
-    let d = place.depth;
-    let mut names = place.names;
-    if 16 <= d {
-        return place;
-    }
-    let i = wide(d);
-    names[i] = n;
-    Place {
-        in_code: false,
-        depth: d + 1,
-        names: names,
-    }
-}
-
-// The place of what is written in a code.
-pub fn within_code(place: Place) -> Place
-    ensures { result ≡ inner_code place }
-{
-    let names = place.names;
-    Place {
-        in_code: true,
-        depth: place.depth,
-        names: names,
+    // The place of what is written in a code.
+    pub fn within_code(self) -> Place
+        ensures { result ≡ inner_code self }
+    {
+        Place {
+            in_code: true,
+            ..self
+        }
     }
 }
 
 // ---- Tokens
 
 // The position after a token of kind k; the same position where there is none.
-pub fn pass(c: &[u64; 16384], s: &[u8], at: usize, k: u32) -> usize
-    requires { Cached c.now s.now }
-    ensures { Pass s.now at k result }
+pub fn pass(tokens: &Tokens, at: usize, k: u32) -> usize
+    ensures { Pass tokens.now.source.now at k result }
 {
-    let t = token_cache::token_in(c, s, at);
-    let TokenRead::Token(j, _a, p, _w) = t else {
+    let TokenRead::Token(j, _a, p, _w) = tokens.token_at(at) else {
         return at;
     };
     if j == k {
@@ -174,15 +129,14 @@ pub fn pass(c: &[u64; 16384], s: &[u8], at: usize, k: u32) -> usize
 }
 
 // The position after a token of kind j and one of kind k; the same position where they are not there.
-pub fn pass_two(c: &[u64; 16384], s: &[u8], at: usize, j: u32, k: u32) -> usize
-    requires { Cached c.now s.now }
-    ensures { PassTwo s.now at j k result }
+pub fn pass_two(tokens: &Tokens, at: usize, j: u32, k: u32) -> usize
+    ensures { PassTwo tokens.now.source.now at j k result }
 {
-    let p = pass(c, s, at, j);
+    let p = pass(tokens, at, j);
     if p <= at {
         return at;
     }
-    let q = pass(c, s, p, k);
+    let q = pass(tokens, p, k);
     if q <= p {
         return at;
     }
@@ -190,15 +144,14 @@ pub fn pass_two(c: &[u64; 16384], s: &[u8], at: usize, j: u32, k: u32) -> usize
 }
 
 // The position after `frame` `:` `[`; the same position where they are not there.
-pub fn pass_frame(c: &[u64; 16384], s: &[u8], at: usize) -> usize
-    requires { Cached c.now s.now }
-    ensures { PassFrame s.now at result }
+pub fn pass_frame(tokens: &Tokens, at: usize) -> usize
+    ensures { PassFrame tokens.now.source.now at result }
 {
-    let p = pass_two(c, s, at, 0, 5);
+    let p = pass_two(tokens, at, 0, 5);
     if p <= at {
         return at;
     }
-    let q = pass(c, s, p, 12);
+    let q = pass(tokens, p, 12);
     if q <= p {
         return at;
     }

@@ -6,7 +6,10 @@ ghost use Rattle.token_cache.specs.Cache.{Cached};
 ghost use Rattle.check_source.specs.Numbers.{KeptAll};
 ghost use Rattle.load.specs.Load.{memories, loading, load_call, LoadMeans, CanInstall, Installed};
 
+use emit_names::Emission;
 use framed::LoadAnswer;
+use names::table::NameTable;
+use token_cache::Tokens;
 
 // The memories of an accepted source, whose names and places of strings are kept: program words p, heap words h, literal bytes l, text bytes x.
 fn install(
@@ -30,9 +33,16 @@ fn install(
     requires can { CanInstall (memories p.old h.old l.old x.old) source.now f t }
     ensures { Installed source.now f t (memories p.new h.new l.new x.new) }
 {
-    emit_program::emit(
-        c, source, begins, ends, hints, count, places, strings, f, t, p, l,
-    );
+    let e = Emission {
+        tokens: Tokens { cache: c, source },
+        names: NameTable {
+            begins,
+            ends,
+            hints,
+            count,
+        },
+    };
+    emit_program::emit(&e, places, strings, f, t, p, l);
     clearing::clear_words(h);
     clearing::clear_bytes(x);
     start_state::start(p, l, h, x);

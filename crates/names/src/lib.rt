@@ -8,6 +8,8 @@ ghost use Rattle.source.specs.Positions.{part};
 ghost use Rattle.words.specs.Words.{word, set_word};
 ghost use Rattle.names.specs.Kept.{table_of, hash_of, Marked, Few, Numbered, KeptAs};
 
+pub mod table;
+
 use words::wide;
 
 pub fn place(m: &[usize], k: usize) -> usize

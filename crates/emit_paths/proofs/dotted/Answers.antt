@@ -1,4 +1,5 @@
 use Rattle.emit_paths.proofs.Laws.{dotted_start, dotted_none, dotted_half, dotted_less, dotted_again, dotted_end}
+use Rattle.emit_steps.specs.Steps.{one_more}
 use Rattle.emit_paths.proofs.dotted.Goals as goal
 
 pub loop-at-init : goal.loop-at-init
@@ -14,6 +15,7 @@ pub loop-at-smaller : goal.loop-at-smaller
 loop-at-smaller c = search dotted_less
 
 pub loop-at-preserved : goal.loop-at-preserved
+unfolding one_more
 loop-at-preserved c = search dotted_again
 
 pub returns : goal.returns

@@ -3,7 +3,4 @@ use Prim.Native.Nat.{◌-◌}
 use Rattle.emit_paths.proofs.holder.Given as goal
 
 abbrev pub invariant-loop-i : goal.invariant-loop-i
-invariant-loop-i l = Holding l.names l.levels l.paths l.initial.p l.j l.p l.i
-
-abbrev pub decreases-loop-i : goal.decreases-loop-i
-decreases-loop-i l = l.levels - l.i
+invariant-loop-i l = Holding l.place.names l.levels l.paths l.initial.p l.j l.p l.i

@@ -6,7 +6,7 @@ use Rattle.emit_tree.proofs.+tree.Goals as goal
 use Rattle.emit_tree.proofs.+tree.Goals.{expression-else-place, expression-then-place+else-operator_after}
 
 pub assigning-right-requires : goal.assigning-right-requires
-assigning-right-requires t c = (omega arith, c.requires.0)
+assigning-right-requires t c = (omega arith, tt)
 
 pub assigning-returns : goal.assigning-returns
 assigning-returns t c = search assign_done
@@ -27,13 +27,10 @@ pub base-returns : goal.base-returns
 base-returns t c = search base_string
 
 pub binary-base-u-requires : goal.binary-base-u-requires
-binary-base-u-requires t c = (search binary_falls, (c.requires.0, search seen_expression))
-
-pub binary-operator-v-requires : goal.binary-operator-v-requires
-binary-operator-v-requires t c = c.requires.0.cached
+binary-base-u-requires t c = (search binary_falls, search seen_expression)
 
 pub binary-operand-requires : goal.binary-operand-requires
-binary-operand-requires t c = (search binary_falls_2, c.requires.0)
+binary-operand-requires t c = (search binary_falls_2, tt)
 
 pub binary-returns : goal.binary-returns
 binary-returns t c = search binary_done
@@ -42,25 +39,22 @@ pub block-returns-then-m-n : goal.block-returns-then-m-n
 block-returns-then-m-n t c = search block_none
 
 pub block-instructions-u-requires : goal.block-instructions-u-requires
-block-instructions-u-requires t c = (search block_falls, (c.requires.0, search rules))
-
-pub block-skip-requires : goal.block-skip-requires
-block-skip-requires t c = c.requires.0.cached
+block-instructions-u-requires t c = (search block_falls, search rules)
 
 pub block-returns : goal.block-returns
 block-returns t c = block_done _ _ _ _ _ _ _ _ c.open_block-o.ensures.done _ c.within_code-inner.ensures _ _ c.instructions-u.ensures _ c.skip.ensures
 
 pub branching-operand-u-requires : goal.branching-operand-u-requires
-branching-operand-u-requires t c = (search first_falls, c.requires.0)
+branching-operand-u-requires t c = (search first_falls, tt)
 
 pub branching-operand-v-requires : goal.branching-operand-v-requires
-branching-operand-v-requires t c = (search second_falls, c.requires.0)
+branching-operand-v-requires t c = (search second_falls, tt)
 
 pub branching-operand-requires : goal.branching-operand-requires
-branching-operand-requires t c = (third_falls _ _ _ c.requires.1 _ c.go_to-m.ensures _ _ c.operand-u.ensures.on c.operand-v.ensures.on _ c.decreases, c.requires.0)
+branching-operand-requires t c = (third_falls _ _ _ c.requires _ c.go_to-m.ensures _ _ c.operand-u.ensures.on c.operand-v.ensures.on _ c.decreases, tt)
 
 pub branching-returns : goal.branching-returns
-branching-returns t c = ifeq_done _ _ _ _ _ _ _ c.requires.1 _ c.go_to-m.ensures _ _ c.operand-u.ensures _ _ c.operand-v.ensures _ c.set_instruction.ensures _ _ c.operand.ensures
+branching-returns t c = ifeq_done _ _ _ _ _ _ _ c.requires _ c.go_to-m.ensures _ _ c.operand-u.ensures _ _ c.operand-v.ensures _ c.set_instruction.ensures _ _ c.operand.ensures
 
 pub expression-frame-requires : goal.expression-frame-requires
 expression-frame-requires t c = (omega arith, search rules)
@@ -78,7 +72,7 @@ pub expression-binary-requires : goal.expression-binary-requires
 expression-binary-requires t c = (omega arith, search rules)
 
 pub expression-returns-then-operator_after : goal.expression-returns-then-operator_after
-expression-returns-then-operator_after t c = search (expression_binary, c.requires.1)
+expression-returns-then-operator_after t c = search (expression_binary, c.requires)
 
 pub expression-base-requires : goal.expression-base-requires
 expression-base-requires t c = (omega arith, search rules)
@@ -86,18 +80,15 @@ expression-base-requires t c = (omega arith, search rules)
 pub expression-returns : goal.expression-returns
 expression-returns t c =
     elim c.if-place.branch [
-      | expression-then-place+else-operator_after w ↦ search (expression_base, c.requires.1)
-      | expression-else-place w ↦ search (expression_outside, c.requires.1)
+      | expression-then-place+else-operator_after w ↦ search (expression_base, c.requires)
+      | expression-else-place w ↦ search (expression_outside, c.requires)
     ]
 
 pub frame-returns-then-m-n : goal.frame-returns-then-m-n
 frame-returns-then-m-n t c = search frame_none
 
 pub frame-slots-u-requires : goal.frame-slots-u-requires
-frame-slots-u-requires t c = (search frame_falls, (c.requires.0, search rules))
-
-pub frame-skip-requires : goal.frame-skip-requires
-frame-skip-requires t c = c.requires.0.cached
+frame-slots-u-requires t c = (search frame_falls, search rules)
 
 pub frame-returns : goal.frame-returns
 frame-returns t c = frame_done _ _ _ _ _ _ _ _ c.open_frame-o.ensures.done _ _ c.slots-u.ensures _ c.skip.ensures
@@ -118,13 +109,13 @@ pub instruction-branching-requires : goal.instruction-branching-requires
 instruction-branching-requires t c = (omega arith, search rules)
 
 pub instruction-returns-then-t-eq4 : goal.instruction-returns-then-t-eq4
-instruction-returns-then-t-eq4 t c = search (instruction_ifeq, c.requires.1)
+instruction-returns-then-t-eq4 t c = search (instruction_ifeq, c.requires)
 
 pub instruction-assigning-requires : goal.instruction-assigning-requires
 instruction-assigning-requires t c = (omega arith, search rules)
 
 pub instruction-returns : goal.instruction-returns
-instruction-returns t c = search (instruction_assign, c.requires.1)
+instruction-returns t c = search (instruction_assign, c.requires)
 
 pub instructions-loop-m-init : goal.instructions-loop-m-init
 instructions-loop-m-init t c = search lines_start
@@ -133,7 +124,7 @@ pub instructions-returns-then-t-eq15 : goal.instructions-returns-then-t-eq15
 instructions-returns-then-t-eq15 t c = search lines_none
 
 pub instructions-line-r-requires : goal.instructions-line-r-requires
-instructions-line-r-requires t c = (omega arith, (c.requires.0, search rules))
+instructions-line-r-requires t c = (omega arith, search rules)
 
 pub instructions-returns-then-m-at : goal.instructions-returns-then-m-at
 instructions-returns-then-m-at t c = search lines_stuck
@@ -145,52 +136,46 @@ pub instructions-returns : goal.instructions-returns
 instructions-returns t c = search lines_end
 
 pub jumping-operand-u-requires : goal.jumping-operand-u-requires
-jumping-operand-u-requires t c = (search first_falls, c.requires.0)
+jumping-operand-u-requires t c = (search first_falls, tt)
 
 pub jumping-operand-requires : goal.jumping-operand-requires
-jumping-operand-requires t c = (search second_falls, c.requires.0)
+jumping-operand-requires t c = (search second_falls, tt)
 
 pub jumping-returns : goal.jumping-returns
-jumping-returns t c = jump_done _ _ _ _ _ _ _ c.requires.1 _ c.go_to-m.ensures _ _ c.operand-u.ensures _ c.set_instruction.ensures _ _ c.operand.ensures
+jumping-returns t c = jump_done _ _ _ _ _ _ _ c.requires _ c.go_to-m.ensures _ _ c.operand-u.ensures _ c.set_instruction.ensures _ _ c.operand.ensures
 
 pub line-instruction-u-requires : goal.line-instruction-u-requires
-line-instruction-u-requires t c = (search line_falls, (c.requires.0, search seen_instruction))
-
-pub line-close_line-requires : goal.line-close_line-requires
-line-close_line-requires t c = c.requires.0.cached
+line-instruction-u-requires t c = (search line_falls, search seen_instruction)
 
 pub line-returns : goal.line-returns
 line-returns t c = search line_done
 
 pub negation-operand-requires : goal.negation-operand-requires
-negation-operand-requires t c = (search first_falls, c.requires.0)
+negation-operand-requires t c = (search first_falls, tt)
 
 pub negation-returns : goal.negation-returns
 negation-returns t c = search negation_done
 
 pub operand-base-requires : goal.operand-base-requires
-operand-base-requires t c = (search operand_falls, (c.requires, search rules))
+operand-base-requires t c = (search operand_falls, search rules)
 
 pub operand-returns : goal.operand-returns
 operand-returns t c = search operand_done
 
 pub right-expression-requires : goal.right-expression-requires
-right-expression-requires t c = (search right_falls, (c.requires, search rules))
+right-expression-requires t c = (search right_falls, search rules)
 
 pub right-returns : goal.right-returns
 right-returns t c = search right_done
 
 pub showing-operand-requires : goal.showing-operand-requires
-showing-operand-requires t c = (search first_falls, c.requires.0)
+showing-operand-requires t c = (search first_falls, tt)
 
 pub showing-returns : goal.showing-returns
 showing-returns t c = search show_done
 
 pub slot-right-u-requires : goal.slot-right-u-requires
-slot-right-u-requires t c = (search slot_falls, c.requires.0)
-
-pub slot-close_slot-requires : goal.slot-close_slot-requires
-slot-close_slot-requires t c = c.requires.0.cached
+slot-right-u-requires t c = (search slot_falls, tt)
 
 pub slot-returns : goal.slot-returns
 slot-returns t c = search (slot_done, c.name_slot-k.ensures, c.within_slot-inner.ensures, c.go_to-m.ensures, c.right-u.ensures, c.close_slot.ensures)
@@ -201,14 +186,11 @@ slots-loop-m-init t c = search slots_start
 pub slots-returns-then-t-ne25 : goal.slots-returns-then-t-ne25
 slots-returns-then-t-ne25 t c = search slots_other
 
-pub slots-pass-q-requires : goal.slots-pass-q-requires
-slots-pass-q-requires t c = c.requires.0.cached
-
 pub slots-returns-then-q-t : goal.slots-returns-then-q-t
 slots-returns-then-q-t t c = search slots_none
 
 pub slots-slot-r-requires : goal.slots-slot-r-requires
-slots-slot-r-requires t c = (omega arith, (c.requires.0, search rules))
+slots-slot-r-requires t c = (omega arith, search rules)
 
 pub slots-loop-m-smaller : goal.slots-loop-m-smaller
 slots-loop-m-smaller t c = omega (arith, c.slot-r.ensures.done.on, c.loop-m.invariant.seen.on)

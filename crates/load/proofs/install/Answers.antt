@@ -3,7 +3,7 @@ use borrow.Author.Rules.{rules}
 use Rattle.load.proofs.install.Goals as goal
 
 pub emit-requires : goal.emit-requires
-emit-requires c = record { cached = search rules; kept = search rules; led = search rules; placed = search rules; can = search install_can_emit }
+emit-requires c = record { kept = search rules; placed = search rules; can = search install_can_emit }
 
 pub start-requires : goal.start-requires
 start-requires c =
