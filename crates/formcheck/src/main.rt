@@ -3,10 +3,7 @@
 // value is no byte. A line of `made` is a memory (0 program words, 1 heap words, 2 literal bytes, 3 text bytes), a place and a value.
 #![tactic(auto)]
 
-ghost use Rattle.input.specs.Counts.{IsPrefixLen};
-
 use std::io;
-use std::rt::Files;
 
 const VALUES: [u32; 22] = [
     0, 1, 2, 3, 4, 5, 6, 7, 16, 17, 31, 37, 38, 65, 66, 128, 129, 256, 257, 1024, 1025, 4294967295,
@@ -23,13 +20,10 @@ fn number_at(s: &[u8], at: usize) -> Number {
     let mut n: u64 = 0;
     let mut i = at;
     while i < s.len() {
-        let b = wide(s[i]) % 256;
+        let b = u64::from(s[i]);
         i += 1;
         if b < 48 {
-            return Number {
-                value: (n % 4294967296) as u32,
-                next: i,
-            };
+            break;
         }
         n = (n % 4294967296) * 10 + (b - 48);
     }
@@ -37,10 +31,6 @@ fn number_at(s: &[u8], at: usize) -> Number {
         value: (n % 4294967296) as u32,
         next: i,
     }
-}
-
-fn wide(b: u8) -> u64 {
-    b as u64
 }
 
 // One word or byte of one of the four memories.
@@ -130,10 +120,8 @@ fn write_place(rt: &impl Print, made: &[u8], memory: u32, place: u32) -> io::Res
     write_memory(rt, memory)?;
     print_output::put_number(rt, place)?;
     print_output::put(rt, b" ")?;
-    let mut i: usize = 0;
-    while i < 22 {
-        write_verdict(rt, made, memory, place, VALUES[i])?;
-        i += 1;
+    for value in VALUES {
+        write_verdict(rt, made, memory, place, value)?;
     }
     print_output::put(rt, b"\n")
 }
@@ -152,21 +140,11 @@ fn write_places(rt: &impl Print, made: &[u8], places: &[u8]) -> io::Result<()> {
     Ok(())
 }
 
-// The file's bytes in the buffer; how many.
-fn read_file<R: Files + Eprint>(rt: &R, name: &[u8], buffer: &mut [u8]) -> usize
-    ensures { IsPrefixLen result buffer.new }
-{
-    match input::read_opened(rt, name, buffer) {
-        Some(n) => n,
-        None => 0,
-    }
-}
-
 fn main(rt: HostRuntime) -> io::Result<()> {
     let mut made = [0u8; 65536];
-    let n = read_file(&rt, b"made", &mut made);
+    let n = input::read_opened(&rt, b"made", &mut made).unwrap_or(0);
     let mut places = [0u8; 65536];
-    let k = read_file(&rt, b"places", &mut places);
+    let k = input::read_opened(&rt, b"places", &mut places).unwrap_or(0);
     print_output::put(&rt, b"as made ")?;
     write_verdict(&rt, &made[..n], 0, 16383, 0)?;
     print_output::put(&rt, b"\n")?;

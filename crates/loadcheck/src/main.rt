@@ -1,9 +1,6 @@
 // For each source that the file `index` names: the name, and that it loads with its counts, or the number that refuses it. F and T are 256.
 #![tactic(auto)]
 
-ghost use Rattle.std.specs.Prelude.{length};
-ghost use Rattle.loadcheck.specs.Lines.{Begins, Ends};
-
 use std::io;
 use std::rt::Files;
 
@@ -53,38 +50,10 @@ fn load_file<R: Files + Print + Eprint>(rt: &R, name: &[u8]) -> io::Result<()> {
     load_source(rt, name, &buffer[..n])
 }
 
-// Where the line that begins there ends.
-fn line_end(index: &[u8], at: usize) -> usize
-    requires { Begins at (length index.now) }
-    ensures { Ends at (length index.now) result }
-{
-    let mut i = at;
-    while i < index.len() {
-        if index[i] == 10 {
-            return i;
-        }
-        i += 1;
-    }
-    i
-}
-
-fn load_files<R: Files + Print + Eprint>(rt: &R, index: &[u8]) -> io::Result<()> {
-    let mut at = 0;
-    while at < index.len() {
-        let end = line_end(index, at);
-        load_file(rt, &index[at..end])?;
-        if end == index.len() {
-            return Ok(());
-        }
-        at = end + 1;
-    }
-    Ok(())
-}
-
 fn main(rt: HostRuntime) -> io::Result<()> {
     let mut buffer = [0u8; 65536];
     let Some(n) = input::read_opened(&rt, b"index", &mut buffer) else {
         return Ok(());
     };
-    load_files(&rt, &buffer[..n])
+    lines::for_each_line(&buffer[..n], |name| load_file(&rt, name))
 }

@@ -2,11 +2,8 @@
 // memory (0 program words, 1 heap words, 2 literal bytes, 3 text bytes), a place and a value.
 #![tactic(auto)]
 
-ghost use Rattle.input.specs.Counts.{IsPrefixLen};
-
 use framed::LookAnswer;
 use std::io;
-use std::rt::Files;
 
 // A number, and the place after the byte behind it.
 #[derive(Clone, Copy)]
@@ -15,21 +12,14 @@ struct Number {
     next: usize,
 }
 
-fn wide(b: u8) -> u64 {
-    b as u64
-}
-
 fn number_at(s: &[u8], at: usize) -> Number {
     let mut n: u64 = 0;
     let mut i = at;
     while i < s.len() {
-        let b = wide(s[i]) % 256;
+        let b = u64::from(s[i]);
         i += 1;
         if b < 48 {
-            return Number {
-                value: (n % 4294967296) as u32,
-                next: i,
-            };
+            break;
         }
         n = (n % 4294967296) * 10 + (b - 48);
     }
@@ -113,18 +103,6 @@ fn write_look<'a>(
     print_output::put(rt, b"\"\n")
 }
 
-// Where a line ends.
-fn line_end(s: &[u8], from: usize) -> usize {
-    let mut i = from;
-    while i < s.len() {
-        if s[i] == 10 {
-            return i;
-        }
-        i += 1;
-    }
-    i
-}
-
 fn write_looks<'a>(
     rt: &impl Print,
     p: &[u32],
@@ -133,19 +111,7 @@ fn write_looks<'a>(
     t: &'a [u8],
     paths: &[u8],
 ) -> io::Result<()> {
-    let mut at = 0;
-    while at < paths.len() {
-        let end = line_end(paths, at);
-        write_look(rt, p, h, l, t, token::token_bytes(paths, at, end))?;
-        if end < at {
-            return Ok(());
-        }
-        if paths.len() <= end {
-            return Ok(());
-        }
-        at = end + 1;
-    }
-    Ok(())
+    lines::for_each_line(paths, |path| write_look(rt, p, h, l, t, path))
 }
 
 // As the memories are, then with another self.
@@ -168,21 +134,11 @@ fn look_thrice<'a>(
     write_looks(rt, p, h, l, t, paths)
 }
 
-// The file's bytes in the buffer; how many.
-fn read_file<R: Files + Eprint>(rt: &R, name: &[u8], buffer: &mut [u8]) -> usize
-    ensures { IsPrefixLen result buffer.new }
-{
-    match input::read_opened(rt, name, buffer) {
-        Some(n) => n,
-        None => 0,
-    }
-}
-
 fn main(rt: HostRuntime) -> io::Result<()> {
     let mut made = [0u8; 65536];
-    let n = read_file(&rt, b"made", &mut made);
+    let n = input::read_opened(&rt, b"made", &mut made).unwrap_or(0);
     let mut paths = [0u8; 65536];
-    let k = read_file(&rt, b"paths", &mut paths);
+    let k = input::read_opened(&rt, b"paths", &mut paths).unwrap_or(0);
     let mut p = [0u32; 16384];
     let mut h = [0u32; 16384];
     let mut l = [0u8; 8192];

@@ -2,7 +2,6 @@
 #![tactic(auto)]
 
 use framed::{CollectAnswer, LookAnswer, RunAnswer, RunReport, WriteAnswer};
-use input::Input;
 use script::{Call, Script};
 use std::io;
 use std::rt::Files;
@@ -42,13 +41,9 @@ fn load_call<R: Files + Print + Eprint>(
     t: &mut [u8; 16384],
 ) -> io::Result<bool> {
     let mut source = [0u8; 16385];
-    let n = match input::read_file(rt, name, &mut source) {
-        Input::Bytes(n) => n,
-        Input::Failed(error) => {
-            input::fail(rt, name, error);
-            put_unfit(rt, name)?;
-            return Ok(false);
-        }
+    let Some(n) = input::told(rt, name, input::read_file(rt, name, &mut source)) else {
+        put_unfit(rt, name)?;
+        return Ok(false);
     };
     let answer = load::load(printing::front(&source, n), frames, texts, p, h, l, t);
     put_loaded(rt, answers::load_number(answer))?;
