@@ -1,9 +1,13 @@
-use Rattle.std.proofs.Common.{rules}
-use Rattle.words.proofs.Ranges.{below_all}
-use Rattle.frame_form.specs.Tests.{name_new, name_apart}
+use Rattle.frame_form.specs.Tests.{name_new}
+use Rattle.words.proofs.Laws.{upto_start, upto_again, upto_done}
 use Rattle.frame_form.proofs.name_new.Goals as goal
+
+pub loop-j-init : goal.loop-j-init
+loop-j-init c = search upto_start
+
+pub loop-j-preserved : goal.loop-j-preserved
+loop-j-preserved c = search upto_again
 
 pub returns : goal.returns
 unfolding name_new
-returns c =
-    below_all (name_apart c.args.h.now c.args.f c.args.i) c.args.i _ _ c.all.ensures.ran (λ x q k. search rules) (λ x q k. search rules)
+returns c = search upto_done

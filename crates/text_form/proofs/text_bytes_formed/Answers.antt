@@ -1,9 +1,13 @@
-use Rattle.std.proofs.Common.{rules}
-use Rattle.words.proofs.Ranges.{below_all}
-use Rattle.text_form.specs.Tests.{text_bytes_formed, text_byte_formed}
+use Rattle.text_form.specs.Tests.{text_bytes_formed}
+use Rattle.words.proofs.Laws.{upto_start, upto_again, upto_done}
 use Rattle.text_form.proofs.text_bytes_formed.Goals as goal
+
+pub loop-i-init : goal.loop-i-init
+loop-i-init c = search upto_start
+
+pub loop-i-preserved : goal.loop-i-preserved
+loop-i-preserved c = search upto_again
 
 pub returns : goal.returns
 unfolding text_bytes_formed
-returns c =
-    below_all (text_byte_formed c.args.t.now c.args.k) c.args.n _ _ c.all.ensures.ran (λ x q k. search rules) (λ x q k. search rules)
+returns c = search upto_done
