@@ -12,7 +12,7 @@ use mir.Val.{Fits, to_z, of_z}
 use mir.ValLaws.{of_z-to_z}
 use borrow.Author.Tests.{eq-eqb, ne_eqb, eqb-true}
 use Rattle.framed.specs.Tree.{Base, Expression}
-use Rattle.framed.specs.Paths.{Path, from_self, from_program}
+use Rattle.framed.specs.Paths.{Path}
 use Rattle.framed.specs.Values.{same_integer}
 use Rattle.framed.specs.Equality.{same_path, operator_number, same_base, same_expression}
 use Rattle.framed.proofs.SameCodeExact.{integer_equal, integer_self}

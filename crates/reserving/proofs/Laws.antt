@@ -8,6 +8,9 @@ use native.Mathlib.Decide.{dec_lt}
 use lib.Dec.{eqb, ltb}
 use lib.ListN.{length}
 use borrow.Author.Tests.{lt-ltb, le-ltb, eq-eqb, ne_eqb}
+use Rattle.std.specs.Prelude.{Result, Ok, Err, is_ok}
+use Rattle.framed.specs.declared.End.{End}
+use Rattle.framed.specs.Answers.{end_number, end_met}
 use Rattle.words.specs.Words.{pick}
 use Rattle.framed.specs.declared.Totals.{Totals}
 use Rattle.tables.specs.Fields.{frame_limit, text_limit}
@@ -24,19 +27,38 @@ use Rattle.collector.specs.Collect.{Collection, collection, in_use_totals, colle
 use Rattle.reserving.specs.declared.Reserved.{Reserved}
 use Rattle.reserving.specs.Reserving.{room_end_held, reserved_words, Reserves, added, lowest_frame_for, lowest_text_for, sought, CountedTo, TextsCounted, Reckons}
 
+-- ---- An end, and none
+
+no_end : {A : Type 0} (r : Result A End) → is_ok r ≡ true → end_met r ≡ 0
+no_end (Ok a) e = refl
+no_end (Err x) e = absurd (let z : ◌≡◌ {A = ℕ} 0 1 = cc in omega arith)
+
+pub end_some : (e : End) → end_number e ≡ 0 → ⊥
+end_some End.NoRule z = omega arith
+end_some End.DivisorZero z = omega arith
+end_some End.IntegerRange z = omega arith
+end_some End.TextLength z = omega arith
+end_some End.SlotLimit z = omega arith
+end_some End.FramesFull z = omega arith
+end_some End.TextsFull z = omega arith
+
+an_end : {A : Type 0} (r : Result A End) → is_ok r ≡ false → end_met r ≡ 0 → ⊥
+an_end (Ok a) e = λ z. absurd (let z : ◌≡◌ {A = ℕ} 0 1 = cc in omega arith)
+an_end (Err x) e = end_some x
+
 -- ---- add
 
 module _ (p : List ℕ) (f n : ℕ) (k : Known) (F₀ F a b : ℕ) (e₀ : F₀ ≡ frame_limit p) (eF : F ≡ F₀) (ea : a ≡ k.frames) (eb : b ≡ f) where
-  pub add_no_frames : F < a + b → ◌≡◌ {A = Reserved} (record { end = 36; known = k }) (added p f n k)
+  pub add_no_frames : F < a + b → ◌≡◌ {A = Reserved} (record { end = Err End.FramesFull; known = k }) (added p f n k)
   unfolding added
   add_no_frames lt = rw (← e₀, ← eF, ← ea, ← eb, lt-ltb F (a + b) lt)
 
   module _ (le : a + b ≤ F) (T₀ T c d : ℕ) (u₀ : T₀ ≡ text_limit p) (eT : T ≡ T₀) (ec : c ≡ k.texts) (ed : d ≡ n) where
-    pub add_no_texts : T < c + d → ◌≡◌ {A = Reserved} (record { end = 37; known = k }) (added p f n k)
+    pub add_no_texts : T < c + d → ◌≡◌ {A = Reserved} (record { end = Err End.TextsFull; known = k }) (added p f n k)
     unfolding added
     add_no_texts lt = rw (← e₀, ← eF, ← ea, ← eb, le-ltb F (a + b) le, ← u₀, ← eT, ← ec, ← ed, lt-ltb T (c + d) lt)
 
-    pub add_both : c + d ≤ T → ◌≡◌ {A = Reserved} (record { end = 0; known = record { frames = k.frames + f; texts = k.texts + n; low = k.low; least = k.least } }) (added p f n k)
+    pub add_both : c + d ≤ T → ◌≡◌ {A = Reserved} (record { end = Ok tt; known = record { frames = k.frames + f; texts = k.texts + n; low = k.low; least = k.least } }) (added p f n k)
     unfolding added
     add_both lt = rw (← e₀, ← eF, ← ea, ← eb, le-ltb F (a + b) le, ← u₀, ← eT, ← ec, ← ed, le-ltb T (c + d) lt)
 
@@ -119,8 +141,8 @@ count_none h limit f lt = record { some = omega arith; all = λ z. absurd (omega
 -- ---- reserve
 
 module _ (p h : List ℕ) (f n : ℕ) (k : Known) (known : Knows h 0 0 k) where
-  by_room : (P : Reserved → Type 0) → P (record { end = 36; known = k }) → P (record { end = 37; known = k }) →
-      (k.frames + f ≤ frame_limit p → k.texts + n ≤ text_limit p → P (record { end = 0; known = record { frames = k.frames + f; texts = k.texts + n; low = k.low; least = k.least } })) → P (added p f n k)
+  by_room : (P : Reserved → Type 0) → P (record { end = Err End.FramesFull; known = k }) → P (record { end = Err End.TextsFull; known = k }) →
+      (k.frames + f ≤ frame_limit p → k.texts + n ≤ text_limit p → P (record { end = Ok tt; known = record { frames = k.frames + f; texts = k.texts + n; low = k.low; least = k.least } })) → P (added p f n k)
   unfolding added
   by_room P x y z = go (dec_lt (frame_limit p) (k.frames + f)) (dec_lt (text_limit p) (k.texts + n))
     where
@@ -139,10 +161,10 @@ module _ (p h : List ℕ) (f n : ℕ) (k : Known) (known : Knows h 0 0 k) where
       })
 
   -- room by what is known is room
-  roomy : (added p f n k).end ≡ 0 → room_end_held p h f n ≡ 0
+  roomy : end_met (added p f n k).end ≡ 0 → room_end_held p h f n ≡ 0
   unfolding room_end_held
   roomy =
-      by_room (λ r. r.end ≡ 0 → room_end_held p h f n ≡ 0) (λ e. absurd (omega arith)) (λ e. absurd (omega arith))
+      by_room (λ r. end_met r.end ≡ 0 → room_end_held p h f n ≡ 0) (λ e. absurd (omega arith)) (λ e. absurd (omega arith))
       (λ a b e. rw (
         le-ltb (frame_limit p) (length (frames_in_use h) + f) (omega (arith, known.frames)),
         le-ltb (text_limit p) (length (texts_in_use h) + n) (omega (arith, known.texts)),
@@ -159,9 +181,10 @@ module _ (p h : List ℕ) (f n : ℕ) (k : Known) (known : Knows h 0 0 k) where
           let q : Reckons h f n a = rw ea reckoned in
           rw s (record { now = sought_knows h f n a 0 0 q.now; then = λ e. sought_knows h f n a f n (q.then e) })
 
-      pub reserve_room : a.end ≡ 0 → Reserves p h f n r.end h
+      pub reserve_room : is_ok a.end ≡ true → Reserves p h f n (end_met r.end) h
       unfolding reserved_words sought
-      reserve_room z =
+      reserve_room ok =
+          let z = no_end a.end ok in
           let q = roomy (rw ea at z) in
           record { words = rw (eq-eqb (room_end_held p h f n) 0 q); end = rw s (z ∙ sym q) }
 
@@ -173,13 +196,13 @@ module _ (p h : List ℕ) (f n low least : ℕ) (full : Full h low least) (x y :
   count_knows : Knows h 0 0 counted
   count_knows = record { frames = omega arith; texts = omega arith; full = full }
 
-  count_end : (added p f n counted).end ≡ room_end_held p h f n
+  count_end : end_met (added p f n counted).end ≡ room_end_held p h f n
   unfolding added room_end_held
   count_end = rw (← ex, ← ey) (go (ltb (frame_limit p) (x + f)) (ltb (text_limit p) (y + n)))
     where
       go : (s t : Bool) →
-          (pick {A = Reserved} s (record { end = 36; known = counted })
-          (pick t (record { end = 37; known = counted }) (record { end = 0; known = record { frames = x + f; texts = y + n; low = low; least = least } }))).end
+          end_met (pick {A = Reserved} s (record { end = Err End.FramesFull; known = counted })
+          (pick t (record { end = Err End.TextsFull; known = counted }) (record { end = Ok tt; known = record { frames = x + f; texts = y + n; low = low; least = least } }))).end
           ≡ pick s 36 (pick t 37 0)
       go true t = refl
       go false true = refl
@@ -188,23 +211,23 @@ module _ (p h : List ℕ) (f n low least : ℕ) (full : Full h low least) (x y :
 module _ (p h : List ℕ) (f n : ℕ) (k : Known) (known : Knows h 0 0 k) (F : ℕ) (eF : F ≡ frame_limit p) (x y : ℕ) (cx : CountedTo h F f x) (cy : TextsCounted h F f x y)
     (b : Reserved) (eb : b ≡ added p f n (record { frames = x; texts = y; low = k.low; least = k.least })) where
   -- where there seems to be room, all were counted; where frames lack, they do
-  fits : b.end ≡ 0 → x + f ≤ F
+  fits : is_ok b.end ≡ true → x + f ≤ F
   unfolding added
   fits z = go (dec_lt (frame_limit p) (x + f))
     where
       go : Dec (frame_limit p < x + f) → x + f ≤ F
-      go (yes lt) = absurd (let q : ◌≡◌ {A = ℕ} 36 0 = rw (eb, lt-ltb (frame_limit p) (x + f) lt) at z in omega arith)
+      go (yes lt) = absurd (let q : ◌≡◌ {A = ℕ} 36 0 = rw (eb, lt-ltb (frame_limit p) (x + f) lt) at (no_end b.end z) in omega arith)
       go (no ge) = omega arith
 
-  full_then : (b.end ≡ 0 → ⊥) → room_end_held p h f n ≡ 0 → ⊥
+  full_then : is_ok b.end ≡ false → room_end_held p h f n ≡ 0 → ⊥
   unfolding room_end_held
   full_then nz e = go (dec_lt (frame_limit p) (x + f))
     where
       go : Dec (frame_limit p < x + f) → ⊥
       go (yes lt) = let q : ◌≡◌ {A = ℕ} 36 0 = rw (lt-ltb (frame_limit p) (length (frames_in_use h) + f) (omega (arith, cx.some))) at e in omega arith
-      go (no ge) = nz (rw eb (count_end p h f n k.low k.least known.full x y (cx.all (omega arith)) (cy.all (omega arith))) ∙ e)
+      go (no ge) = an_end b.end nz (rw eb (count_end p h f n k.low k.least known.full x y (cx.all (omega arith)) (cy.all (omega arith))) ∙ e)
 
-  module _ (z : b.end ≡ 0) where
+  module _ (z : is_ok b.end ≡ true) where
     abbrev knows_now : Knows h 0 0 (counted p h f n k.low k.least known.full x y (cx.all (fits z)) (cy.all (fits z)))
     knows_now = count_knows p h f n k.low k.least known.full x y (cx.all (fits z)) (cy.all (fits z))
 
@@ -212,14 +235,14 @@ module _ (p h : List ℕ) (f n : ℕ) (k : Known) (known : Knows h 0 0 k) (F : �
     count_full = reserve_full p h f n _ knows_now b eb
 
     module _ (r : Reserved) (s : r ≡ sought h f n b) where
-      pub count_room : Reserves p h f n r.end h
+      pub count_room : Reserves p h f n (end_met r.end) h
       count_room = reserve_room p h f n _ knows_now b eb r s z
 
       pub count_reckons : Reckons h f n r
       count_reckons = reserve_reckons p h f n _ knows_now b eb r s
 
   -- and after a collection
-  module _ (nz : b.end ≡ 0 → ⊥) (m : Totals) (h' : List ℕ) (ec : collect_heap h ≡ collection m h')
+  module _ (nz : is_ok b.end ≡ false) (m : Totals) (h' : List ℕ) (ec : collect_heap h ≡ collection m h')
       (d : Reserved) (ed : d ≡ added p f n (record { frames = m.frames; texts = m.texts; low = 0; least = 0 })) where
     words_are : (collect_heap h).words ≡ h'
     words_are = ap (λ (z : Collection). z.words) ec
@@ -243,7 +266,7 @@ module _ (p h : List ℕ) (f n : ℕ) (k : Known) (known : Knows h 0 0 k) (F : �
     collect_full = reserve_full p h' f n _ knows_then d ed
 
     module _ (r : Reserved) (s : r ≡ sought h' f n d) where
-      pub collect_reserves : Reserves p h f n r.end h'
+      pub collect_reserves : Reserves p h f n (end_met r.end) h'
       unfolding reserved_words sought
       collect_reserves = record {
         words = rw (ne_eqb (room_end_held p h f n) 0 (full_then nz)) (sym words_are);

@@ -1,6 +1,8 @@
 -- Document 01, "The calls", room (here: reserve), over the words: the end, and the words after it. What this is of the bounded machine's state is in proofs/Meaning.
 -- Assumes nothing.
-use Rattle.std.specs.Prelude.{ℕ, ◌+◌, ◌≤◌, ◌≡◌, List, eqb, ltb, length}
+use Rattle.std.specs.Prelude.{ℕ, ◌+◌, ◌≤◌, ◌≡◌, Ok, Err, List, eqb, ltb, length}
+use Rattle.framed.specs.declared.End.{End}
+use Rattle.framed.specs.Answers.{end_met}
 use Rattle.words.specs.Words.{pick}
 use Rattle.tables.specs.Fields.{frame_limit, text_limit}
 use Rattle.heap.specs.Held.{frames_in_use, texts_in_use}
@@ -29,9 +31,9 @@ pub record Reserves (p h : List ℕ) (f n r : ℕ) (h' : List ℕ) : Type 0 wher
 -- the end, if so many frames and made texts are in use; where there is room, f and n are counted in
 unfoldable pub added : List ℕ → ℕ → ℕ → Known → Reserved
 added p f n k =
-    pick (ltb (frame_limit p) (k.frames + f)) (record { end = 36; known = k })
-    (pick (ltb (text_limit p) (k.texts + n)) (record { end = 37; known = k })
-    (record { end = 0; known = record { frames = k.frames + f; texts = k.texts + n; low = k.low; least = k.least } }))
+    pick (ltb (frame_limit p) (k.frames + f)) (record { end = Err End.FramesFull; known = k })
+    (pick (ltb (text_limit p) (k.texts + n)) (record { end = Err End.TextsFull; known = k })
+    (record { end = Ok tt; known = record { frames = k.frames + f; texts = k.texts + n; low = k.low; least = k.least } }))
 
 -- the number below which every frame is in use: where f are to be made the lowest that is free, else the one given
 unfoldable pub lowest_frame_for : List ℕ → ℕ → ℕ → ℕ
@@ -65,4 +67,4 @@ pub record TextsCounted (h : List ℕ) (limit f frames r : ℕ) : Type 0 where
 -- what is known after reserve; where there is room, with f and n counted in
 pub record Reckons (h : List ℕ) (f n : ℕ) (r : Reserved) : Type 0 where
   pub now : Knows h 0 0 r.known
-  pub then : r.end ≡ 0 → Knows h f n r.known
+  pub then : end_met r.end ≡ 0 → Knows h f n r.known

@@ -3,36 +3,43 @@
 #![tactic(auto)]
 
 ghost use Rattle.std.specs.Prelude.{◌≡◌};
+ghost use Rattle.framed.specs.Answers.{end_met};
 ghost use Rattle.heap.specs.Closed.{Closed};
 ghost use Rattle.allocation.specs.Known.{FullBelow, TextsFull, Full, Knows};
 ghost use Rattle.reserving.specs.Reserving.{added, Reserves, lowest_frame_for, lowest_text_for, sought, CountedTo, TextsCounted, Reckons};
 
 use allocation::Known;
+use framed::End;
 
-// The end, 0 where there is room, and what is known then. Where there is room the f frames and t texts are counted in.
+// The end where there is no room, and what is known then. Where there is room the f frames and t texts are counted in.
 #[derive(Clone, Copy)]
 pub struct Reserved {
-    pub end: u32,
+    pub end: Result<(), End>,
     pub known: Known,
 }
 
-// The end, if so many are in use: 36 where the frames plus f exceed F, else 37 where the made texts plus t exceed T, else 0, and then they are counted in.
+// The end, if so many are in use: 36 where the frames plus f exceed F, else 37 where the made texts plus t exceed T, else none, and then they are counted in.
 fn add(p: &[u32], f: u32, t: u32, k: Known) -> Reserved
     ensures { result ≡ added p.now f t k }
 {
     if words::wide(tables::frame_limit(p)) < words::wide(k.frames) + words::wide(f) {
-        return Reserved { end: 36, known: k };
+        return Reserved {
+            end: Err(End::FramesFull),
+            known: k,
+        };
     }
     if words::wide(tables::text_limit(p)) < words::wide(k.texts) + words::wide(t) {
-        return Reserved { end: 37, known: k };
+        return Reserved {
+            end: Err(End::TextsFull),
+            known: k,
+        };
     }
     Reserved {
-        end: 0,
+        end: Ok(()),
         known: Known {
             frames: k.frames + f,
             texts: k.texts + t,
-            low: k.low,
-            least: k.least,
+            ..k
         },
     }
 }
@@ -67,13 +74,12 @@ fn seek(h: &[u32], f: u32, t: u32, r: Reserved) -> Reserved
     let low = lowest_frame_for(h, f, r.known.low);
     let least = lowest_text_for(h, t, r.known.least);
     Reserved {
-        end: r.end,
         known: Known {
-            frames: r.known.frames,
-            texts: r.known.texts,
-            low: low,
-            least: least,
+            low,
+            least,
+            ..r.known
         },
+        ..r
     }
 }
 
@@ -86,12 +92,10 @@ fn count_frames(h: &[u32], limit: u32, f: u32) -> u32
     }
     let most = limit - f;
     let mut n = 0u32;
-    let mut g = 0u32;
-    while g < 256 {
+    for g in 0..256 {
         if heap::frame_used(h, g) {
             n += 1;
         }
-        g += 1;
         if most < n {
             return n;
         }
@@ -103,10 +107,7 @@ fn count_frames(h: &[u32], limit: u32, f: u32) -> u32
 fn count_texts(h: &[u32], limit: u32, f: u32, frames: u32) -> u32
     ensures { TextsCounted h.now limit f frames result }
 {
-    if limit < f {
-        return 0;
-    }
-    if limit - f < frames {
+    if limit < f || limit - f < frames {
         return 0;
     }
     heap::count_texts(h)
@@ -116,23 +117,22 @@ fn count_texts(h: &[u32], limit: u32, f: u32, frames: u32) -> u32
 pub fn reserve(p: &[u32], h: &mut [u32], f: u32, t: u32, k: Known) -> Reserved
     requires closed { Closed h.old }
     requires knows_2 { Knows h.old 0 0 k }
-    ensures exact { Reserves p.now h.old f t result.end h.new }
+    ensures exact { Reserves p.now h.old f t (end_met result.end) h.new }
     ensures knows { Reckons h.new f t result }
 {
     let a = add(p, f, t, k);
-    if a.end == 0 {
+    if a.end.is_ok() {
         return seek(h, f, t, a);
     }
     let limit = tables::frame_limit(p);
     let frames = count_frames(h, limit, f);
     let c = Known {
-        frames: frames,
+        frames,
         texts: count_texts(h, limit, f, frames),
-        low: k.low,
-        least: k.least,
+        ..k
     };
     let b = add(p, f, t, c);
-    if b.end == 0 {
+    if b.end.is_ok() {
         return seek(h, f, t, b);
     }
     let n = collector::collect_heap(h);

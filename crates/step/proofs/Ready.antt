@@ -6,6 +6,10 @@ use mathlib.Core.List.{List}
 use native.Mathlib.Omega.{arith}
 use lib.Dec.{leb}
 use lib.ListN.{length}
+use Rattle.std.specs.Prelude.{Result, Ok, Err}
+use Rattle.framed.specs.declared.End.{End}
+use Rattle.framed.specs.Answers.{end_number, end_met as met_by}
+use Rattle.reserving.proofs.Laws.{end_some}
 use Rattle.framed.specs.Answers.{Stopped}
 use Rattle.trees.specs.Held.{remaining}
 use Rattle.heap.specs.Words.{position, end_mark, set_end_mark}
@@ -85,29 +89,45 @@ module _ (p l h t : List ℕ) (i : ℕ) (can : CanStep p l h t i) (r : ℕ) (h�
         fit = a.fit;
       }
 
+no_err : {A : Type 0} (r : Result A End) → ((e : End) → r ≡ Err e → ⊥) → met_by r ≡ 0
+no_err (Ok u) n = refl
+no_err (Err e) n = absurd (n e refl)
+
 -- as the code meets it
 module _ (p l h t : List ℕ) (i : ℕ) (out : List ℕ) (used : ℕ) (can : CanAttempt p l h t i out used) (s : Reserved) (h₁ : List ℕ)
-    (k : Reserves p h (frames_for p i) (texts_for p i) s.end h₁) where
+    (k : Reserves p h (frames_for p i) (texts_for p i) (met_by s.end) h₁) where
   -- no room
-  module _ (ne : s.end ≡ 0 → ⊥) (h' : List ℕ) (eh : h' ≡ set_end_mark h₁ s.end) where
-    pub full_ended : WordsFit h' → Attempts p l h t i out used (Outcome.Ended s.end) h' t out
-    full_ended = attempt_ended p l h t i out used can s.end h₁ (end_of_reserve p l h t i can.step s.end h₁ k ne) ne h' eh
+  module _ (e : End) (is : s.end ≡ Err e) (full : ℕ) (en : full ≡ end_number e) (h' : List ℕ) (eh : h' ≡ set_end_mark h₁ full) where
+    met : full ≡ met_by s.end
+    met = rw (en, is)
+
+    none : full ≡ 0 → ⊥
+    none z = end_some e (sym en ∙ z)
+
+    meets : Reserves p h (frames_for p i) (texts_for p i) full h₁
+    meets = rw met k
+
+    pub full_ended : WordsFit h' → Attempts p l h t i out used (Outcome.Ended full) h' t out
+    full_ended = attempt_ended p l h t i out used can full h₁ (end_of_reserve p l h t i can.step full h₁ meets none) none h' eh
 
     pub full_knows : Reckons h₁ (frames_for p i) (texts_for p i) s → Knows h' 0 0 s.known
-    full_knows q = ended_knows p l h t i can.step s.end h₁ (end_of_reserve p l h t i can.step s.end h₁ k ne) s.known q.now h' eh
+    full_knows q = ended_knows p l h t i can.step full h₁ (end_of_reserve p l h t i can.step full h₁ meets none) s.known q.now h' eh
 
   pub ready_can : CanAttempt p l h₁ t i out used
-  ready_can = record { step = ready_step p l h t i can.step s.end h₁ k; inside = can.inside }
+  ready_can = record { step = ready_step p l h t i can.step (met_by s.end) h₁ k; inside = can.inside }
 
   pub ready_form : MakesOrShows p i → AssignsOrShows p i
   ready_form = left_form p l (formed_now p l h t i can.step).program i can.step.there
 
-  module _ (z : s.end ≡ 0) where
+  module _ (n : (e : End) → s.end ≡ Err e → ⊥) where
+    z : met_by s.end ≡ 0
+    z = no_err s.end n
+
     pub ready_room : Reckons h₁ (frames_for p i) (texts_for p i) s → RoomFor p h₁ i s.known
     ready_room q = record { room = rw z at k.end; knows = q.then z }
 
     pub ready_attempts : (o : Outcome) (h' t' out' : List ℕ) → Attempts p l h₁ t i out used o h' t' out' → Attempts p l h t i out used o h' t' out'
-    ready_attempts = from_ready p l h t i can.step s.end h₁ k z out used
+    ready_attempts = from_ready p l h t i can.step (met_by s.end) h₁ k z out used
 
     pub ready_quietly : (o : Outcome) (h' t' : List ℕ) → AttemptsQuietly p l h₁ t i o h' t' → Attempts p l h t i out used o h' t' out
     ready_quietly o h' t' a = ready_attempts o h' t' out (a.with_output out used can.inside)

@@ -70,13 +70,13 @@ fn reserved(
     ensures knows { Knows h.new 0 0 result.known }
 {
     let s = step_parts::reserve_for(p, h, i, k);
-    let full = s.end;
     let known = s.known;
-    if full != 0 {
+    if let Err(e) = s.end {
+        let full = answers::end_number(e);
         heap::set_end_mark(h, full);
         return Tried {
             outcome: Outcome::Ended(full),
-            known: known,
+            known,
         };
     }
     if step_join::joins(p, i) {

@@ -6,6 +6,8 @@ use native.Mathlib.Omega.{arith}
 use native.Mathlib.Decide.{dec_lt}
 use lib.ListN.{length}
 use borrow.Author.Tests.{le-ltb}
+use Rattle.std.specs.Prelude.{Ok}
+use Rattle.framed.specs.Answers.{end_met}
 use Rattle.tables.specs.Fields.{frame_limit, text_limit}
 use Rattle.heap.specs.Held.{frames_in_use, texts_in_use}
 use Rattle.needs.specs.Needs.{cap, both}
@@ -53,10 +55,10 @@ module _ (p h : List ℕ) (i : ℕ) (can : CanReserve p h i) (f n : ℕ) (ef : f
         end = rw (ef, en) at k.end ∙ capped_end p (frames_for p i) (texts_for p i) F T h';
       }
 
-  counts : (r : Reserved) (h' : List ℕ) → Reserves p h f n r.end h' → Reckons h' f n r → Reckons h' (frames_for p i) (texts_for p i) r
+  counts : (r : Reserved) (h' : List ℕ) → Reserves p h f n (end_met r.end) h' → Reckons h' f n r → Reckons h' (frames_for p i) (texts_for p i) r
   counts r h' k q = record { now = q.now; then = λ z. rest z (q.then z) }
     where
-      rest : r.end ≡ 0 → Knows h' f n r.known → Knows h' (frames_for p i) (texts_for p i) r.known
+      rest : end_met r.end ≡ 0 → Knows h' f n r.known → Knows h' (frames_for p i) (texts_for p i) r.known
       rest z a =
           let room = reserved_room p can.at.literal_bytes h f n h' can.at.program (rw z at k) in
           rw (← cap_exact (frames_for p i) f ef (omega (arith, room.frames)), ← cap_exact (texts_for p i) n en (omega (arith, room.texts))) a
@@ -67,7 +69,7 @@ module _ (p h : List ℕ) (i : ℕ) (can : CanReserve p h i) (m : ℕ) (em : m �
     pub reserve_counted : (r : ℕ) (h' : List ℕ) → Reserves p h f n r h' → Reserves p h (frames_for p i) (texts_for p i) r h'
     reserve_counted = counted p h i can f n (both_frames (frames_for p i) (texts_for p i) m em f ef) (both_texts (frames_for p i) (texts_for p i) m em n en)
 
-    pub reckons_counted : (r : Reserved) (h' : List ℕ) → Reserves p h f n r.end h' → Reckons h' f n r → Reckons h' (frames_for p i) (texts_for p i) r
+    pub reckons_counted : (r : Reserved) (h' : List ℕ) → Reserves p h f n (end_met r.end) h' → Reckons h' f n r → Reckons h' (frames_for p i) (texts_for p i) r
     reckons_counted = counts p h i can f n (both_frames (frames_for p i) (texts_for p i) m em f ef) (both_texts (frames_for p i) (texts_for p i) m em n en)
 
   module _ (z : m ≡ 0) where
@@ -77,5 +79,5 @@ module _ (p h : List ℕ) (i : ℕ) (can : CanReserve p h i) (m : ℕ) (em : m �
     pub reserve_nothing : Reserves p h (frames_for p i) (texts_for p i) 0 h
     reserve_nothing = rw (nothing.0, nothing.1) (nothing_reserved p h can.frames_few can.texts_few)
 
-    pub reckons_nothing : (k : Known) → Knows h 0 0 k → Reckons h (frames_for p i) (texts_for p i) (record { end = 0; known = k })
+    pub reckons_nothing : (k : Known) → Knows h 0 0 k → Reckons h (frames_for p i) (texts_for p i) (record { end = Ok tt; known = k })
     reckons_nothing k a = rw (nothing.0, nothing.1) (record { now = a; then = λ e. a })

@@ -1,6 +1,7 @@
 // The parts of one step over the words: reserve, check, the line of a show, commit. The step itself is the crate `step`.
 #![tactic(auto)]
 
+ghost use Rattle.framed.specs.Answers.{end_met};
 ghost use Rattle.step_parts.specs.Step.{CanReserve, RoomFor, CanShow, Shows, CanAttempt, Attempts};
 ghost use Rattle.step_parts.specs.Step.{frames_for, texts_for};
 ghost use Rattle.allocation.specs.Known.{Knows};
@@ -33,16 +34,19 @@ pub struct Tried {
     pub known: Known,
 }
 
-// Room for what instruction i makes: 36, 37 or 0. One that makes nothing counts nothing.
+// Room for what instruction i makes: the end 36 or 37, or none. One that makes nothing counts nothing.
 pub fn reserve_for(p: &[u32], h: &mut [u32], i: u32, k: Known) -> Reserved
     requires can_reserve { CanReserve p.now h.old i }
     requires knows_2 { Knows h.old 0 0 k }
-    ensures exact { Reserves p.now h.old (frames_for p.now i) (texts_for p.now i) result.end h.new }
+    ensures exact { Reserves p.now h.old (frames_for p.now i) (texts_for p.now i) (end_met result.end) h.new }
     ensures knows { Reckons h.new (frames_for p.now i) (texts_for p.now i) result }
 {
     let n = needs::needed(p, i);
     if n == 0 {
-        return Reserved { end: 0, known: k };
+        return Reserved {
+            end: Ok(()),
+            known: k,
+        };
     }
     reserving::reserve(p, h, needs::frames(n), needs::texts(n), k)
 }

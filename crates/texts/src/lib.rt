@@ -82,10 +82,8 @@ fn same_bytes(a: &[u8], b: &[u8]) -> bool
         return false;
     }
     let mut agree = true;
-    let mut i = 0usize;
-    while i < a.len() {
+    for i in 0..a.len() {
         agree = agree & (a[i] == b[i]);
-        i += 1;
     }
     agree
 }

@@ -1,10 +1,6 @@
-use Prim.Native.Nat.{◌-◌}
 use Rattle.heap.specs.Words.{frame_used}
 use Rattle.heap.proofs.Loops.{Tally}
 use Rattle.reserving.proofs.count_frames.Given as goal
 
 abbrev pub invariant-loop-g : goal.invariant-loop-g
 invariant-loop-g l = Tally (frame_used l.h) l.g l.n
-
-abbrev pub decreases-loop-g : goal.decreases-loop-g
-decreases-loop-g l = 256 - l.g

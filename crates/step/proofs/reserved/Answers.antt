@@ -7,8 +7,8 @@ use Rattle.step.proofs.reserved.Goals as goal
 pub reserve_for-s-requires : goal.reserve_for-s-requires
 reserve_for-s-requires c = record { can_reserve = search can_reserve; knows_2 = c.requires.knows_2 }
 
-pub returns-then-full-ne0 : goal.returns-then-full-ne0
-returns-then-full-ne0 c = record { exact = search (full_ended, words_fit {h = c.set_end_mark.new.h} c.type_inv.h); knows = search full_knows }
+pub returns-in-Err : goal.returns-in-Err
+returns-in-Err c = record { exact = search (full_ended, words_fit {h = c.set_end_mark.new.h} c.type_inv.h); knows = search full_knows }
 
 pub joined-requires : goal.joined-requires
 joined-requires c = record { can_step = search ready_step; i_value = sym c.joins.ensures ∙ c.if-joins.true; room_for = search ready_room }
@@ -20,4 +20,4 @@ pub in_parts-requires : goal.in_parts-requires
 in_parts-requires c = record { can_attempt = search ready_can; assigns_or_shows = search ready_form; room_for = search ready_room }
 
 pub returns : goal.returns
-returns c = record { exact = search (ready_attempts, c.requires.can_attempt, c.reserve_for-s.ensures.exact, c.if-full-ne0.false, c.in_parts.ensures.exact); knows = c.in_parts.ensures.knows }
+returns c = record { exact = search (ready_attempts, c.requires.can_attempt, c.reserve_for-s.ensures.exact, c.in_default.not-Err, c.in_parts.ensures.exact); knows = c.in_parts.ensures.knows }
