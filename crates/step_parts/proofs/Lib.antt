@@ -5,3 +5,4 @@ pub mod Runs
 pub mod Known
 pub mod Laws
 pub mod Room
+pub mod Numbers

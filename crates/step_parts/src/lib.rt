@@ -92,8 +92,8 @@ pub fn in_parts(
     ensures exact { Attempts p.now l.now h.old t.old i out.old used result.outcome h.new t.new out.new }
     ensures knows { Knows h.new 0 0 result.known }
 {
-    let e = checking::check(p, l, h, t, i);
-    if e != 0 {
+    if let Err(end) = checking::check(p, l, h, t, i) {
+        let e = answers::end_number(end);
         heap::set_end_mark(h, e);
         return Tried {
             outcome: Outcome::Ended(e),
