@@ -17,33 +17,33 @@ pub enum Value {
     Frame(u32),
 }
 
-// Which end a step meets: document 01's numbers 31 to 37, in their order.
+// Which end a step meets: document 01's numbers 31 to 37.
 #[derive(Clone, Copy, PartialEq, Eq)]
 pub enum End {
-    NoRule,
-    DivisorZero,
-    IntegerRange,
-    TextLength,
-    SlotLimit,
-    FramesFull,
-    TextsFull,
+    NoRule = 31,
+    DivisorZero = 32,
+    IntegerRange = 33,
+    TextLength = 34,
+    SlotLimit = 35,
+    FramesFull = 36,
+    TextsFull = 37,
 }
 
-// Why load refuses a source: document 01's numbers 1 to 12, in their order.
+// Why load refuses a source: document 01's numbers 1 to 12.
 #[derive(Clone, Copy, PartialEq, Eq)]
 pub enum LoadRefusal {
-    MemoryLength,
-    LimitRange,
-    SourceLength,
-    NoToken,
-    Nesting,
-    NotOneFrame,
-    OutsideCode,
-    BadFrame,
-    CountLimit,
-    AboveProgram,
-    NoStart,
-    WrittenFrames,
+    MemoryLength = 1,
+    LimitRange = 2,
+    SourceLength = 3,
+    NoToken = 4,
+    Nesting = 5,
+    NotOneFrame = 6,
+    OutsideCode = 7,
+    BadFrame = 8,
+    CountLimit = 9,
+    AboveProgram = 10,
+    NoStart = 11,
+    WrittenFrames = 12,
 }
 
 // What load answers: loaded, or why not.
