@@ -1,3 +1,4 @@
+use native.Mathlib.Omega.{arith}
 use Rattle.source.proofs.Positions.{byte_is}
 use Rattle.spaces.proofs.Laws.{comment_start, comment_here, comment_again, comment_done}
 use Rattle.spaces.proofs.comment_end.Goals as goal
@@ -9,7 +10,7 @@ pub returns-then-s-i-eq10 : goal.returns-then-s-i-eq10
 returns-then-s-i-eq10 c = comment_here _ _ _ _ _ c.loop-i.invariant c.loop-i-test.true (byte_is _ _) c.if-s-i-eq10.true
 
 pub loop-i-preserved : goal.loop-i-preserved
-loop-i-preserved c = comment_again _ _ _ _ _ c.loop-i.invariant c.loop-i-test.true (byte_is _ _) c.if-s-i-eq10.false
+loop-i-preserved c = comment_again _ _ _ _ _ c.loop-i.invariant c.loop-i-test.true (byte_is _ _) (λ (e : _). omega arith)
 
 pub returns : goal.returns
 returns c = search comment_done
