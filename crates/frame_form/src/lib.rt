@@ -1,5 +1,5 @@
 // Whether what a value names is there, and whether the frames of heap words are well-formed (document 01: whole). No function here has a `requires`.
-// The loops count by hand, the tests are `if`s and `&`: with `all` or `for` and `&&` a whole heap's test took 1.8 to 2.8 times as long.
+// The loops count by hand, the tests are `if`s and `&`: with `all` or `for` and `&&` a whole heap's test took 1.3 (`for`) to 1.9 (`all`) times as long.
 #![tactic(auto)]
 
 ghost use Rattle.std.specs.Prelude.{◌≡◌};

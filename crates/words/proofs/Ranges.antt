@@ -23,7 +23,7 @@ here n i lt = get_or-range_with_len 0 n i 0 lt ∙ omega arith
 
 below_from_all : (t : ℕ → Bool) (n : ℕ) (r : Bool)
     → MatchBool r (AllWithin (λ x. t x ≡ true) (range_with_len 0 n) 0 (length (range_with_len 0 n)))
-      ((k : ℕ) × (k < length (range_with_len 0 n)) × HoldsAt (λ x. t x ≡ false) (range_with_len 0 n) k)
+    ((k : ℕ) × (k < length (range_with_len 0 n)) × HoldsAt (λ x. t x ≡ false) (range_with_len 0 n) k)
     → r ≡ all_below t n
 below_from_all t n true m =
     sym (all_if t n (λ i lt. rw (here n i lt) at (m i 0 (omega arith) (rw (length-range_with_len 0 n) lt))))
@@ -31,6 +31,7 @@ below_from_all t n false (k, lt, f) = go (all_below t n) refl
   where
     small : k < n
     small = rw (length-range_with_len 0 n) at lt
+
     go : (b : Bool) → all_below t n ≡ b → false ≡ b
     go true e = absurd (false≢true (sym (rw (here n k small) at (f 0)) ∙ all_means t n e k small))
     go false e = refl
@@ -38,7 +39,7 @@ below_from_all t n false (k, lt, f) = go (all_below t n) refl
 -- the test t, the bound n, two `_`, the call's clause `ran`, and what a call of the closure says where it answers true and where false
 pub below_all : {F : Type 0} {g : Mut F (ℕ × Unit {0}) Bool} (t : ℕ → Bool) (n : ℕ) (u : Range ℕ) (f : F) {r : Bool}
     → (xs : List ℕ) × (o : Option ℕ) × (j : F) × YieldsThen nat_range_steps (record { start = 0; end = n }) xs o u × FoldsTo (λ p x q. Called g p (x, tt) true q) f xs j
-      × MatchOption o (r ≡ true) (λ x. (r ≡ false) × ((h : F) × Called g j (x, tt) false h))
+    × MatchOption o (r ≡ true) (λ x. (r ≡ false) × ((h : F) × Called g j (x, tt) false h))
     → ((x : ℕ) (q : F) → Called g f (x, tt) true q → (q ≡ f) × (t x ≡ true))
     → ((x : ℕ) (q : F) → Called g f (x, tt) false q → t x ≡ false)
     → r ≡ all_below t n

@@ -44,7 +44,11 @@ impl Cell for u8 {
 pub fn word<T: Cell>(m: &[T], k: usize) -> T
     ensures { result ≡ T.read m.now k }
 {
-    m.get(k).copied().unwrap_or(T::zero())
+    // not `get`, `copied` and `unwrap_or`: the test of a whole heap took 1.5 times as long
+    if k < m.len() {
+        return m[k];
+    }
+    T::zero()
 }
 
 #[tactic(auto, using(crate::proofs::Laws::set_past), unfolding(crate::specs::Words::set_word))]
