@@ -5,7 +5,9 @@ ghost use Rattle.std.specs.Prelude.{◌≡◌};
 ghost use Rattle.framed.specs.Answers.{end_number, load_number, stop_word, makers_number};
 ghost use Rattle.answers.specs.Numbers.{stopped_number, run_number, collect_number, look_number, write_number};
 
-use framed::{CollectAnswer, End, LoadAnswer, LookAnswer, MakersAnswer, RunAnswer, Stop, WriteAnswer};
+use framed::{
+    CollectAnswer, End, LoadAnswer, LookAnswer, MakersAnswer, RunAnswer, Stop, WriteAnswer,
+};
 
 pub fn load_number(a: LoadAnswer) -> u32
     ensures { result ≡ load_number a }

@@ -5,4 +5,3 @@ use Rattle.lexeme.proofs.number_of.Given as goal
 
 abbrev pub invariant-loop-i : goal.invariant-loop-i
 invariant-loop-i l = Numbering l.digits l.i l.n
-

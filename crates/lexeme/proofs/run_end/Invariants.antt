@@ -6,4 +6,3 @@ use Rattle.lexeme.proofs.run_end.Given as goal
 
 abbrev pub invariant-loop-i : goal.invariant-loop-i
 invariant-loop-i l = Running class l.s l.m l.at l.i
-

@@ -6,4 +6,3 @@ use Rattle.spaces.proofs.comment_end.Given as goal
 
 abbrev pub invariant-loop-i : goal.invariant-loop-i
 invariant-loop-i l = Comment class l.s l.at l.i
-
