@@ -12,12 +12,12 @@ use names::table::NameTable;
 use token_cache::Tokens;
 
 // The memories of an accepted source, whose names and places of strings are kept: program words p, heap words h, literal bytes l, text bytes x.
-fn install(
-    c: &[u64; 16384],
-    source: &[u8],
-    begins: &[usize],
-    ends: &[usize],
-    hints: &[u8; 4096],
+fn install<'a>(
+    c: &'a [u64; 16384],
+    source: &'a [u8],
+    begins: &'a [usize],
+    ends: &'a [usize],
+    hints: &'a [u8; 4096],
     count: u32,
     places: &[usize],
     strings: u32,
