@@ -60,8 +60,8 @@ module _ (m : Memories) (source : List ℕ) (F T : ℕ) (q : Program) (re : refu
       }
 
 -- what is kept of a source that loads
-pub loaded_kept : (r : LoadAnswer) (c source b e o : List ℕ) (n m : ℕ) → check.KeptAt (load_number r) c source b e o n m → r ≡ LoadAnswer.Loaded → check.KeptAll c source b e o n m
-loaded_kept r c source b e o n m k q = k.is (ap load_number q)
+pub loaded_kept : (r : LoadAnswer) (v : ℕ) (c source b e o : List ℕ) (n m : ℕ) → load_number r ≡ v → check.KeptAt v c source b e o n m → r ≡ LoadAnswer.Loaded → check.KeptAll c source b e o n m
+loaded_kept r v c source b e o n m a k q = k.is (sym a ∙ ap load_number q)
 
 -- ---- install
 

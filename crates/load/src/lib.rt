@@ -4,10 +4,11 @@
 ghost use Rattle.std.specs.Prelude.{◌≡◌};
 ghost use Rattle.token_cache.specs.Cache.{Cached};
 ghost use Rattle.check_source.specs.Numbers.{KeptAll};
+ghost use Rattle.framed.specs.Answers.{load_number, load_refused};
 ghost use Rattle.load.specs.Load.{memories, loading, load_call, LoadMeans, CanInstall, Installed};
 
 use emit_names::Emission;
-use framed::LoadAnswer;
+use framed::{LoadAnswer, LoadRefusal};
 use names::table::NameTable;
 use token_cache::Tokens;
 
@@ -48,6 +49,29 @@ fn install<'a>(
     start_state::start(p, l, h, x);
 }
 
+// What load answers, by what the check found.
+fn answer(checked: Result<(), LoadRefusal>) -> LoadAnswer
+    ensures { load_number result ≡ load_refused checked }
+{
+    let Err(refusal) = checked else {
+        return LoadAnswer::Loaded;
+    };
+    match refusal {
+        LoadRefusal::MemoryLength => LoadAnswer::MemoryLength,
+        LoadRefusal::LimitRange => LoadAnswer::LimitRange,
+        LoadRefusal::SourceLength => LoadAnswer::SourceLength,
+        LoadRefusal::NoToken => LoadAnswer::NoToken,
+        LoadRefusal::Nesting => LoadAnswer::Nesting,
+        LoadRefusal::NotOneFrame => LoadAnswer::NotOneFrame,
+        LoadRefusal::OutsideCode => LoadAnswer::OutsideCode,
+        LoadRefusal::BadFrame => LoadAnswer::BadFrame,
+        LoadRefusal::CountLimit => LoadAnswer::CountLimit,
+        LoadRefusal::AboveProgram => LoadAnswer::AboveProgram,
+        LoadRefusal::NoStart => LoadAnswer::NoStart,
+        LoadRefusal::WrittenFrames => LoadAnswer::WrittenFrames,
+    }
+}
+
 pub fn load(
     source: &[u8],
     f: u32,
@@ -67,7 +91,7 @@ pub fn load(
     let mut places = [0usize; 129];
     let mut count = 0u32;
     let mut strings = 0u32;
-    let answer = check_source::check(
+    let checked = check_source::check(
         p.len(),
         h.len(),
         l.len(),
@@ -83,6 +107,7 @@ pub fn load(
         f,
         t,
     );
+    let answer = answer(checked);
     let LoadAnswer::Loaded = answer else {
         return answer;
     };

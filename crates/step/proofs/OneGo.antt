@@ -2,10 +2,14 @@
 use Prim.Native.Nat.{ℕ}
 use mathlib.Core.Path.{◌≡◌, refl}
 use mathlib.Core.List.{List}
+use Rattle.std.specs.Prelude.{Result, Ok, Err}
+use Rattle.framed.specs.declared.End.{End}
+use Rattle.framed.specs.Answers.{end_number}
 use Rattle.heap.specs.Words.{set_end_mark}
 use Rattle.allocation.specs.declared.Known.{Known}
 use Rattle.allocation.specs.Known.{Knows}
 use Rattle.wellformed.specs.WellFormed.{Formed}
+use Rattle.commit.specs.declared.Done.{Done}
 use Rattle.commit.specs.Direct.{CanDo, MakesNothing, MakesOrShows, IsMade, IsEnded, Does}
 use Rattle.commit.specs.Words.{WordsFit}
 use Rattle.step_parts.specs.declared.Outcome.{Outcome}
@@ -26,9 +30,9 @@ module _ (p l h t : List ℕ) (i : ℕ) (can : CanStep p l h t i) where
     knows = rw (n.frames, n.texts) a;
   }
 
-module _ (p l h t : List ℕ) (i : ℕ) (out : List ℕ) (used : ℕ) (can : CanAttempt p l h t i out used) (known : Known) (a : Knows h 0 0 known) (r : ℕ) (h₁ : List ℕ)
+module _ (p l h t : List ℕ) (i : ℕ) (out : List ℕ) (used : ℕ) (can : CanAttempt p l h t i out used) (known : Known) (a : Knows h 0 0 known) (r : Result Done End) (h₁ : List ℕ)
     (k : Does p l h t i r h₁) where
-  module _ (is : r ≡ 0) where
+  module _ (is : r ≡ Ok Done.Made) where
     made : IsMade p l h t i h₁
     made = k.made is
 
@@ -41,24 +45,24 @@ module _ (p l h t : List ℕ) (i : ℕ) (out : List ℕ) (used : ℕ) (can : Can
     pub made_knows_still : Knows h₁ 0 0 known
     made_knows_still = made_then_knows p l h t i can.step known made_room 0 made.end refl h₁ t made.commits
 
-  module _ (some : r ≡ 0 → ⊥) (looked : r ≡ 255 → ⊥) (h' : List ℕ) (eh : h' ≡ set_end_mark h₁ r) where
-    ended : IsEnded p l h t i r h₁
-    ended = k.ended some looked
+  module _ (e : End) (is : r ≡ Err e) (n : ℕ) (en : n ≡ end_number e) (h' : List ℕ) (eh : h' ≡ set_end_mark h₁ n) where
+    ended : IsEnded p l h t i n h₁
+    ended = rw en (k.ended e is)
 
     ended_room : RoomFor p h i known
     ended_room = room_for_nothing p l h t i can.step ended.nothing known a
 
-    marked : h' ≡ set_end_mark h r
+    marked : h' ≡ set_end_mark h n
     marked = rw ended.words at eh
 
-    pub direct_ended : WordsFit h' → Attempts p l h t i out used (Outcome.Ended r) h' t out
-    direct_ended fit = (ended_quietly p l h t i can.step known ended_room r ended.end some h' marked fit).with_output out used can.inside
+    pub direct_ended : WordsFit h' → Attempts p l h t i out used (Outcome.Ended n) h' t out
+    direct_ended fit = (ended_quietly p l h t i can.step known ended_room n ended.end ended.some h' marked fit).with_output out used can.inside
 
     pub ended_knows_still : Knows h' 0 0 known
-    ended_knows_still = ended_then_knows p l h t i can.step known ended_room r ended.end some h' marked
+    ended_knows_still = ended_then_knows p l h t i can.step known ended_room n ended.end ended.some h' marked
 
   -- else it makes something or shows, and all is as it was
-  module _ (is : r ≡ 255) where
+  module _ (is : r ≡ Ok Done.Left) where
     as_it_was : h₁ ≡ h
     as_it_was = (k.left is).words
 

@@ -8,11 +8,13 @@ ghost use Rattle.commit.specs.Direct.{CanDo, MakesOrShows, Does};
 ghost use Rattle.step_join.specs.Join.{joins_entry};
 
 use allocation::Known;
+use commit::Done;
+use framed::End;
 use step_parts::{Outcome, Tried};
 use tables::InstructionEntry;
 
-// Instruction i, where it makes nothing and shows nothing, in one go: 0 it is made, 31 to 35 the end that it meets. Else it is left, 255.
-fn direct<'a>(p: &[u32], l: &'a [u8], h: &mut [u32], t: &'a [u8], i: u32) -> u32
+// Instruction i, where it makes nothing and shows nothing, in one go. Else it is left.
+fn direct<'a>(p: &[u32], l: &'a [u8], h: &mut [u32], t: &'a [u8], i: u32) -> Result<Done, End>
     requires { CanDo p.now l.now h.old t.now i }
     ensures { Does p.now l.now h.old t.now i result h.new }
 {
@@ -21,12 +23,15 @@ fn direct<'a>(p: &[u32], l: &'a [u8], h: &mut [u32], t: &'a [u8], i: u32) -> u32
         return step_assign::assign(p, l, h, t, i, kind == 0);
     }
     match tables::instruction_at(p, i) {
-        InstructionEntry::AssignSelf(_, _, _) => 255,
-        InstructionEntry::AssignProgram(_, _, _) => 255,
-        InstructionEntry::Show(_) => 255,
-        InstructionEntry::Jump(a, c) => step_jump::jump(p, l, h, a, c),
+        InstructionEntry::AssignSelf(_, _, _) => Ok(Done::Left),
+        InstructionEntry::AssignProgram(_, _, _) => Ok(Done::Left),
+        InstructionEntry::Show(_) => Ok(Done::Left),
+        InstructionEntry::Jump(a, c) => {
+            step_jump::jump(p, l, h, a, c)?;
+            Ok(Done::Made)
+        }
         InstructionEntry::Ifeq(a, c, d) => step_jump::branch(p, l, h, t, i, a, c, d),
-        InstructionEntry::Bad => 255,
+        InstructionEntry::Bad => Ok(Done::Left),
     }
 }
 
@@ -38,8 +43,8 @@ fn joined(p: &[u32], l: &[u8], h: &mut [u32], t: &mut [u8], i: u32, k: Known) ->
     ensures exact { AttemptsQuietly p.now l.now h.old t.old i result.outcome h.new t.new }
     ensures knows { Knows h.new 0 0 result.known }
 {
-    let met = step_join::assign_join(p, l, h, t, i, k.least);
-    if met != 0 {
+    if let Err(end) = step_join::assign_join(p, l, h, t, i, k.least) {
+        let met = answers::end_number(end);
         heap::set_end_mark(h, met);
         return Tried {
             outcome: Outcome::Ended(met),
@@ -101,19 +106,19 @@ pub fn attempt(
     ensures exact { Attempts p.now l.now h.old t.old i out.old used result.outcome h.new t.new out.new }
     ensures knows { Knows h.new 0 0 result.known }
 {
-    let d = direct(p, l, h, t, i);
-    if d == 0 {
-        return Tried {
+    match direct(p, l, h, t, i) {
+        Ok(Done::Made) => Tried {
             outcome: Outcome::Made(0),
             known: k,
-        };
-    }
-    if d == 255 {
-        return reserved(p, l, h, t, i, out, used, k);
-    }
-    heap::set_end_mark(h, d);
-    Tried {
-        outcome: Outcome::Ended(d),
-        known: k,
+        },
+        Ok(Done::Left) => reserved(p, l, h, t, i, out, used, k),
+        Err(end) => {
+            let met = answers::end_number(end);
+            heap::set_end_mark(h, met);
+            Tried {
+                outcome: Outcome::Ended(met),
+                known: k,
+            }
+        }
     }
 }
