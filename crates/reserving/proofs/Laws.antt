@@ -18,7 +18,7 @@ use Rattle.heap.specs.Words.{frame_used}
 use Rattle.heap.specs.Lists.{passing}
 use Rattle.heap.specs.Held.{frames_in_use, texts_in_use}
 use Rattle.heap.proofs.Lists.{passing_yes, passing_no}
-use Rattle.heap.proofs.Loops.{Tally, frames_counted}
+use Rattle.reserving.proofs.Tally.{Tally, frames_counted}
 use Rattle.allocation.specs.declared.Known.{Known}
 use Rattle.allocation.specs.Allocation.{next_frame, next_text}
 use Rattle.allocation.specs.Known.{FullBelow, TextsFull, Full, Knows}

@@ -2,6 +2,7 @@
 // that refuses the source as tokens, or 0.
 #![tactic(auto)]
 
+use framed::LoadRefusal;
 use std::env::FillError;
 use std::io;
 use std::rt::{Env, Files};
@@ -53,10 +54,10 @@ fn write_tokens(rt: &impl Print, s: &[u8]) -> io::Result<()> {
     Ok(())
 }
 
-// The number that refuses a source as tokens, or 0.
-fn refused(s: &[u8]) -> u32 {
+// Whether the source is refused as tokens, and why.
+fn tokens_refused(s: &[u8]) -> Result<(), LoadRefusal> {
     if 16384 < s.len() {
-        return 3;
+        return Err(LoadRefusal::SourceLength);
     }
     let mut c = [0u64; 16384];
     let mut begins = [0usize; 129];
@@ -65,6 +66,14 @@ fn refused(s: &[u8]) -> u32 {
     let mut places = [0usize; 129];
     let found = survey::survey(&mut c, s, &mut begins, &mut ends, &mut hints, &mut places);
     found.refusal
+}
+
+// The number that refuses a source as tokens, or 0.
+fn refused(s: &[u8]) -> u32 {
+    match tokens_refused(s) {
+        Ok(()) => 0,
+        Err(refusal) => refusal as u32,
+    }
 }
 
 fn dump_source(rt: &impl Print, path: &[u8], s: &[u8]) -> io::Result<()> {

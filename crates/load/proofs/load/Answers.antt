@@ -19,4 +19,4 @@ install-requires c =
     }
 
 pub returns : goal.returns
-returns c = record { exact = search loaded_exact; meaning = search loaded_means }
+returns c = record { exact = loaded_exact _ _ _ _ _ _ _ c.answer-answer.result (c.answer-answer.ensures ∙ c.check-checked.ensures.number) c.in-Loaded.is _ _ _ _ c.install.ensures; meaning = loaded_means _ _ _ _ _ _ _ c.answer-answer.result (c.answer-answer.ensures ∙ c.check-checked.ensures.number) c.in-Loaded.is _ _ _ _ c.install.ensures }

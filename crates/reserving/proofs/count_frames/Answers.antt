@@ -2,7 +2,7 @@ use mathlib.Core.Path.{refl}
 use native.Mathlib.Omega.{arith}
 use borrow.Author.Rules.{rules}
 use Rattle.heap.specs.Words.{frame_used}
-use Rattle.heap.proofs.Loops.{tally_start, tally_yes, tally_no}
+use Rattle.reserving.proofs.Tally.{tally_start, tally_yes, tally_no}
 use Rattle.reserving.proofs.Laws.{count_none, count_stop, count_all}
 use Rattle.reserving.proofs.count_frames.Goals as goal
 use Rattle.reserving.proofs.count_frames.Goals.{else-frame_used, then-frame_used}

@@ -1,5 +1,5 @@
 use Rattle.heap.specs.Words.{frame_used}
-use Rattle.heap.proofs.Loops.{Tally}
+use Rattle.reserving.proofs.Tally.{Tally}
 use Rattle.reserving.proofs.count_frames.Given as goal
 
 abbrev pub invariant-loop-g : goal.invariant-loop-g
