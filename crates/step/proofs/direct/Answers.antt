@@ -22,10 +22,10 @@ pub returns-in-Show : goal.returns-in-Show
 returns-in-Show c = search show_left
 
 pub returns-in_err-jump-in-Jump : goal.returns-in_err-jump-in-Jump
-returns-in_err-jump-in-Jump c = rw (passed _ _ c.from_residual.ensures.1) (search (jump_ends, c.in_err-jump.was))
+returns-in_err-jump-in-Jump c = rw (passed _ _ c.from_residual.ensures.1) (search (jump_ends, c.in_err-jump-in-Jump.was))
 
 pub returns-in_ok-jump-in-Jump : goal.returns-in_ok-jump-in-Jump
-returns-in_ok-jump-in-Jump c = search (jump_does, c.in_ok-jump.was)
+returns-in_ok-jump-in-Jump c = search (jump_does, c.in_ok-jump-in-Jump.was)
 
 pub returns-in-Bad : goal.returns-in-Bad
 returns-in-Bad c = search bad_left

@@ -10,4 +10,4 @@ pub returns-in-Err : goal.returns-in-Err
 returns-in-Err c = record { exact = search (join_ended, words_fit {h = c.set_end_mark.new.h} c.type_inv.h); knows = search join_ended_knows }
 
 pub returns : goal.returns
-returns c = record { exact = search (join_made, words_fit {h = c.assign_join.new.h} c.type_inv.h); knows = search (join_made_knows, c.in_default.is) }
+returns c = record { exact = search (join_made, words_fit {h = c.assign_join.new.h} c.type_inv.h); knows = join_made_knows _ _ _ _ _ c.requires.can_step _ c.requires.room_for c.requires.i_value _ _ _ c.assign_join.ensures _ c.in_default.is }
