@@ -6,7 +6,7 @@ import re
 import subprocess
 import sys
 
-ARGS = [a for a in sys.argv[1:] if a != '-v']
+ARGS = [a for a in sys.argv[1:] if a != '-v'] if __name__ == '__main__' else []
 VERBOSE = '-v' in sys.argv
 
 
@@ -149,9 +149,10 @@ POINTS = [
     ('7 a number, flag or enum that says which step to run', lambda: matching(r'\bown: bool|kind: u32,? ')),
 ]
 
-for name, count in POINTS:
-    places = count()
-    print(f'{len(places):5}  {name}')
-    if VERBOSE:
-        for place in places:
-            print('        ' + place)
+if __name__ == '__main__':
+    for name, count in POINTS:
+        places = count()
+        print(f'{len(places):5}  {name}')
+        if VERBOSE:
+            for place in places:
+                print('        ' + place)
