@@ -3,7 +3,6 @@
 
 ghost use Rattle.std.specs.Prelude.{◌≡◌};
 ghost use Rattle.program_marks.specs.Marks.{mark_slots, mark_parts, mark_expressions, mark_operands, mark_instructions};
-ghost use Rattle.program_marks.specs.Marks.{expression_wholes, instruction_wholes, instruction_codes, code_names, homes};
 ghost use Rattle.program_marks.specs.Marks.{mark_named, mark_names, mark_firsts, mark_next, mark_nexts, home_of, mark_home, mark_homes};
 
 use tables::{
@@ -28,33 +27,26 @@ pub struct Marks {
 }
 
 impl Marks {
-    pub fn of(p: &[u32]) -> Marks
-        ensures expression_wholes { result.expression_wholes ≡ expression_wholes p.now }
-        ensures instruction_wholes { result.instruction_wholes ≡ instruction_wholes p.now }
-        ensures instruction_codes { result.instruction_codes ≡ instruction_codes p.now }
-        ensures code_names { result.code_names ≡ code_names p.now }
-        ensures homes { result.homes ≡ homes p.now }
+    // Marks what program words say, over what stood here. It is filled in place: handed back, 15 KB more would lie on the stack.
+    pub fn fill(&mut self, p: &[u32])
+        ensures expression_wholes { self.new.expression_wholes ≡ mark_expressions p.now self.old.expression_wholes }
+        ensures instruction_wholes { self.new.instruction_wholes ≡ mark_instructions p.now self.old.instruction_wholes }
+        ensures instruction_codes { self.new.instruction_codes ≡ mark_nexts p.now (mark_firsts p.now self.old.instruction_codes) }
+        ensures code_names { self.new.code_names ≡ mark_names p.now self.old.code_names }
+        ensures homes { self.new.homes ≡ mark_homes p.now self.new.expression_wholes self.new.instruction_wholes self.new.instruction_codes self.old.homes }
     {
-        let mut m = Marks {
-            expression_wholes: [0; 1025],
-            instruction_wholes: [0; 1025],
-            instruction_codes: [0; 513],
-            code_names: [0; 129],
-            homes: [0; 1025],
-        };
-        mark_expressions(p, &mut m.expression_wholes);
-        mark_instructions(p, &mut m.instruction_wholes);
-        mark_firsts(p, &mut m.instruction_codes);
-        mark_nexts(p, &mut m.instruction_codes);
-        mark_names(p, &mut m.code_names);
+        mark_expressions(p, &mut self.expression_wholes);
+        mark_instructions(p, &mut self.instruction_wholes);
+        mark_firsts(p, &mut self.instruction_codes);
+        mark_nexts(p, &mut self.instruction_codes);
+        mark_names(p, &mut self.code_names);
         mark_homes(
             p,
-            &m.expression_wholes,
-            &m.instruction_wholes,
-            &m.instruction_codes,
-            &mut m.homes,
+            &self.expression_wholes,
+            &self.instruction_wholes,
+            &self.instruction_codes,
+            &mut self.homes,
         );
-        m
     }
 }
 

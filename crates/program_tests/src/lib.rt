@@ -165,5 +165,13 @@ fn marks_ok(p: &[u32], m: &Marks) -> bool
 pub fn parts_ok(p: &[u32]) -> bool
     ensures { result ≡ parts_ok p.now }
 {
-    marks_ok(p, &Marks::of(p))
+    let mut m = Marks {
+        expression_wholes: [0; 1025],
+        instruction_wholes: [0; 1025],
+        instruction_codes: [0; 513],
+        code_names: [0; 129],
+        homes: [0; 1025],
+    };
+    m.fill(p);
+    marks_ok(p, &m)
 }
