@@ -99,7 +99,7 @@ enum {
 /* Loads a source with the limits F (frames) and T (texts): the memories then hold its program at its start. What they held
  * before does not matter. Answers FRAMED_LOADED, or the lowest number from 1 to 12 that holds; then nothing is written.
  * The place of a refusal in the source is what the command `framed check MODEL` tells.
- * Stack: at most 161,408 bytes, at the deepest nesting; a level of code takes 1,264 of them. */
+ * Stack: at most 161,392 bytes, at the deepest nesting; a level of code takes 1,264 of them. */
 uint32_t framed_load(const uint8_t *source, size_t source_length, uint32_t frames, uint32_t texts,
                      uint32_t *program, size_t program_length, uint32_t *heap, size_t heap_length,
                      uint8_t *literals, size_t literals_length, uint8_t *text_bytes, size_t text_length);
@@ -108,7 +108,7 @@ uint32_t framed_load(const uint8_t *source, size_t source_length, uint32_t frame
  * Answers why it stopped; *steps and *bytes become the steps made and the bytes written. After an end from 31 to 37 the
  * memories keep it, and every later run answers it again. With FRAMED_NOT_WHOLE nothing is written, *steps and *bytes
  * included.
- * Stack: at most 16,048 bytes over program words that load wrote, 189,776 over any memories, which may nest frames and code
+ * Stack: at most 16,064 bytes over program words that load wrote, 189,792 over any memories, which may nest frames and code
  * deeper than a source. */
 uint32_t framed_run(const uint32_t *program, size_t program_length, uint32_t *heap, size_t heap_length,
                     const uint8_t *literals, size_t literals_length, uint8_t *text_bytes, size_t text_length,
@@ -131,7 +131,7 @@ uint32_t framed_look(const uint32_t *program, size_t program_length, const uint3
 
 /* The bytes of the text at the end of a path: answers how many there are (at most 64), and writes them to the front of
  * `out`, as far as they fit. For another kind or a refusal there are none, as for an empty text: framed_look tells them
- * apart. Stack: at most 15,224 bytes. */
+ * apart. Stack: at most 15,208 bytes. */
 size_t framed_look_text(const uint32_t *program, size_t program_length, const uint32_t *heap, size_t heap_length,
                         const uint8_t *literals, size_t literals_length, const uint8_t *text_bytes, size_t text_length,
                         const uint8_t *path, size_t path_length, uint8_t *out, size_t out_length);
@@ -139,7 +139,7 @@ size_t framed_look_text(const uint32_t *program, size_t program_length, const ui
 /* What made the frames that self and program reach, for a model that has no room (FRAMED_FRAMES_FULL): counts[n] becomes how
  * many of them instruction n made, counts[0] how many were made at loading. All FRAMED_MAKERS counts are written, and the
  * memories stay. Answers 0; or FRAMED_NOT_WHOLE with nothing written. The place of instruction n in the source is what the
- * command `framed where MODEL` tells. Stack: at most 16,192 bytes. */
+ * command `framed where MODEL` tells. Stack: at most 15,136 bytes. */
 uint32_t framed_makers(const uint32_t *program, size_t program_length, const uint32_t *heap, size_t heap_length,
                        const uint8_t *literals, size_t literals_length, const uint8_t *text_bytes, size_t text_length,
                        uint32_t counts[FRAMED_MAKERS]);
@@ -150,7 +150,7 @@ uint32_t framed_makers(const uint32_t *program, size_t program_length, const uin
  * FRAMED_WRITTEN; with FRAMED_SHORT_BUFFER or FRAMED_NOT_WHOLE nothing is written, *length included. For memories that load
  * made, with any runs and collects since, FRAMED_TEXT_BUFFER bytes are enough; others may have a text of any length, of
  * which no more is looked at than the buffer is long.
- * Stack: at most 35,696 bytes over program words that load wrote, 194,928 over any memories, which may nest frames and code
+ * Stack: at most 31,568 bytes over program words that load wrote, 184,664 over any memories, which may nest frames and code
  * deeper than a source. */
 uint32_t framed_write(const uint32_t *program, size_t program_length, const uint32_t *heap, size_t heap_length,
                       const uint8_t *literals, size_t literals_length, const uint8_t *text_bytes, size_t text_length,

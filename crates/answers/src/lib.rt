@@ -2,11 +2,12 @@
 #![tactic(auto)]
 
 ghost use Rattle.std.specs.Prelude.{◌≡◌};
-ghost use Rattle.framed.specs.Answers.{end_number, load_number, stop_word, makers_number};
+ghost use Rattle.framed.specs.Answers.{end_number, load_number, load_refusal_number, stop_word, makers_number};
 ghost use Rattle.answers.specs.Numbers.{stopped_number, run_number, collect_number, look_number, write_number};
 
 use framed::{
-    CollectAnswer, End, LoadAnswer, LookAnswer, MakersAnswer, RunAnswer, Stop, WriteAnswer,
+    CollectAnswer, End, LoadAnswer, LoadRefusal, LookAnswer, MakersAnswer, RunAnswer, Stop,
+    WriteAnswer,
 };
 
 pub fn load_number(a: LoadAnswer) -> u32
@@ -27,6 +28,13 @@ pub fn load_number(a: LoadAnswer) -> u32
         LoadAnswer::NoStart => 11,
         LoadAnswer::WrittenFrames => 12,
     }
+}
+
+// 1 to 12.
+pub fn load_refusal_number(refusal: LoadRefusal) -> u32
+    ensures { result ≡ load_refusal_number refusal }
+{
+    refusal as u32
 }
 
 // 31 to 37.

@@ -67,18 +67,18 @@ fn assign_entry(k: u32, j: u32, length: u32, e: u32) -> InstructionEntry
 // ---- One token
 
 // An integer, the token t, as expression x.
-pub fn integer(tokens: &Tokens, p: &mut [u32], x: u32, n: Next, t: Seen) -> Next
-    requires { Sees tokens.now.source.now n.at t }
-    ensures { EmitsAny IntegerHere (integer_emitted x) tokens.now.source.now n p.old p.new result }
+pub fn integer(s: &[u8], p: &mut [u32], x: u32, n: Next, t: Seen) -> Next
+    requires { Sees s.now n.at t }
+    ensures { EmitsAny IntegerHere (integer_emitted x) s.now n p.old p.new result }
 {
     table_updates::set_expression(p, x, ExpressionEntry::Integer(t.word));
     n.go_to(t.end)
 }
 
 // A string, the token t, as expression x.
-pub fn string(tokens: &Tokens, p: &mut [u32], x: u32, n: Next, t: Seen) -> Next
-    requires { Sees tokens.now.source.now n.at t }
-    ensures { EmitsAny StringHere (string_emitted x) tokens.now.source.now n p.old p.new result }
+pub fn string(s: &[u8], p: &mut [u32], x: u32, n: Next, t: Seen) -> Next
+    requires { Sees s.now n.at t }
+    ensures { EmitsAny StringHere (string_emitted x) s.now n p.old p.new result }
 {
     table_updates::set_expression(p, x, ExpressionEntry::Literal(n.strings));
     n.one_string(t.end)

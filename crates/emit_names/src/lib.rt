@@ -76,22 +76,22 @@ fn write_name(p: &mut [u32], k: u32, w: &[u8])
 }
 
 // Name k of the names kept.
-fn write_kept(s: &[u8], names: &NameTable, k: u32, p: &mut [u32])
+fn write_kept(s: &[u8], begins: &[usize], ends: &[usize], k: u32, p: &mut [u32])
     requires { Short s.now }
-    ensures { p.new ≡ write_kept s.now names.now.begins.now names.now.ends.now k p.old }
+    ensures { p.new ≡ write_kept s.now begins.now ends.now k p.old }
 {
-    let a = names::place(names.begins, wide(k));
-    let q = names::place(names.ends, wide(k));
+    let a = names::place(begins, wide(k));
+    let q = names::place(ends, wide(k));
     let w = token::token_bytes(s, a, q);
     write_name(p, k, w);
 }
 
 // The names kept.
-pub fn write_names(s: &[u8], names: &NameTable, p: &mut [u32])
+pub fn write_names(s: &[u8], begins: &[usize], ends: &[usize], n: u32, p: &mut [u32])
     requires { Short s.now }
-    ensures { p.new ≡ write_names (table_of s.now names.now.begins.now names.now.ends.now names.now.count) 0 p.old }
+    ensures { p.new ≡ write_names (table_of s.now begins.now ends.now n) 0 p.old }
 {
-    for k in 0..names.count {
-        write_kept(s, names, k, p);
+    for k in 0..n {
+        write_kept(s, begins, ends, k, p);
     }
 }

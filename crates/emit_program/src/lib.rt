@@ -61,7 +61,13 @@ fn write_tree(e: &Emission, p: &mut [u32]) -> Next
     ensures { TreeWritten e.now.tokens.source.now e.now.names.begins.now e.now.names.ends.now e.now.names.count p.old p.new result }
 {
     let n = emit_tree::emit_tree(e, p);
-    emit_names::write_names(e.tokens.source, &e.names, p);
+    emit_names::write_names(
+        e.tokens.source,
+        e.names.begins,
+        e.names.ends,
+        e.names.count,
+        p,
+    );
     n
 }
 

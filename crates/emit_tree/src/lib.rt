@@ -48,9 +48,9 @@ fn base(e: &Emission, p: &mut [u32], place: Place, x: u32, n: Next, t: Seen) -> 
         return emit_bases::path_base(e, p, place, x, n, t);
     }
     if t.kind == 26 {
-        return emit_leaves::integer(&e.tokens, p, x, n, t);
+        return emit_leaves::integer(e.tokens.source, p, x, n, t);
     }
-    emit_leaves::string(&e.tokens, p, x, n, t)
+    emit_leaves::string(e.tokens.source, p, x, n, t)
 }
 
 // A base as the next expression.

@@ -93,3 +93,11 @@ module _ (h marks : List ℕ) (f : ℕ) (counts : List ℕ) (a : Tallied h marks
 
   pub all_counted : 256 ≤ f → counts ≡ counts_below h marks 256
   all_counted le = let i = a.inside in let e : f ≡ 256 = omega arith in a.so_far ∙ ap (counts_below h marks) e
+
+-- ---- The marks are those of what is reached
+
+pub fit_marks : (h marks m : List ℕ) → marks ≡ m → MakersFit h m → MakersFit h marks
+fit_marks h marks m e f = subst (λ (k : List ℕ). MakersFit h k) (sym e) f
+
+pub below_marks : (h marks m counts : List ℕ) → marks ≡ m → counts ≡ counts_below h marks 256 → counts ≡ counts_below h m 256
+below_marks h marks m counts e c = c ∙ ap (λ (k : List ℕ). counts_below h k 256) e

@@ -27,7 +27,7 @@ use Rattle.heap.specs.Lists.{passing}
 use Rattle.heap.proofs.Held.{maker_of_used}
 use Rattle.heap.proofs.Lists.{listed_length, listed_at, same_length, passing_means, passing_has, passing_once}
 use Rattle.mark.specs.Mark.{mark_all}
-use Rattle.mark.specs.Reached.{Reached, Marked}
+use Rattle.mark.specs.Reached.{Reached}
 use Rattle.mark.proofs.ReachLaws.{mark_exact, reached_in_use}
 use Rattle.state_form.proofs.Facts.{well_formed_closed}
 use Rattle.wellformed.specs.WellFormed.{limits, WellFormed, well_formed}
@@ -134,18 +134,18 @@ module _ (p h l t counts : List ℕ) (b : Bool) (eb : b ≡ well_formed p h l t)
   unfolding makers_call
   refused_exact e = rw (← eb, not-true b e)
 
-  module _ (marks : List ℕ) (e : not b ≡ false) (em : marks ≡ mark_all h) where
-    -- what count_marked requires
-    pub makers_fit : MakersFit h marks
+  module _ (e : not b ≡ false) where
+    -- what count_reached requires
+    pub makers_fit : MakersFit h (mark_all h)
     makers_fit =
         let w = formed_here e in
         record {
           fits = λ f lt m.
-              let r = (mark_exact h (closed p h l t w)).frame_sound f lt (subst (λ (k : List ℕ). Marked k f) em m) in
+              let r = (mark_exact h (closed p h l t w)).frame_sound f lt m in
               let most = w.program.entries.limits.instructions_most in
               let there = maker_there p h l t w f r in
               omega arith;
         }
 
-    pub counted_exact : (counts' : List ℕ) → counts' ≡ counts_below h marks 256 → makers_call p h l t counts ≡ counting MakersAnswer.Counted counts'
-    counted_exact counts' ec = call_counts p h l t counts (formed_here e) ∙ ap (counting MakersAnswer.Counted) (ap (λ (k : List ℕ). counts_below h k 256) (sym em) ∙ sym ec)
+    pub counted_exact : (counts' : List ℕ) → counts' ≡ counts_below h (mark_all h) 256 → makers_call p h l t counts ≡ counting MakersAnswer.Counted counts'
+    counted_exact counts' ec = call_counts p h l t counts (formed_here e) ∙ ap (counting MakersAnswer.Counted) (sym ec)

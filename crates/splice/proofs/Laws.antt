@@ -1,15 +1,11 @@
--- What a splice keeps and what it writes, and a loop that writes one (write_words::copy_words). Assumes nothing.
-use Prim.Native.Nat.{ℕ, suc, min, ◌+◌, ◌-◌, ◌≤◌, ◌<◌}
+-- What a splice keeps and what it writes, and a loop that writes one (copy, and write_words::copy_words). Assumes nothing.
+use Prim.Native.Nat.{ℕ, suc, ◌+◌, ◌-◌, ◌≤◌, ◌<◌}
 use mathlib.Core.Path.{◌≡◌, refl, ◌∙◌, ap, sym}
-use mathlib.Core.List.{List, [], ◌∷◌, ◌++◌, append_assoc}
-use mathlib.Core.Bool.{Bool, true, false}
-use borrow.Author.Tests.{ltb-true, ltb-false}
-use borrow.Rule.Slice.PartMut.{put_mid}
-use lib.Dec.{ltb}
+use mathlib.Core.List.{List, [], ◌∷◌, ◌++◌}
 use native.Mathlib.Omega.{arith}
 use native.Mathlib.Numerals.{add-one}
 use lib.ListN.{length, get_or, set, take, drop, length-set, drop_of_length-le, take-append-drop}
-use lib.Seq.{take_all, drop-drop, length-take-le, drop-cons, set_out, length-sets, sets-eq}
+use lib.Seq.{length-take-le, drop-cons, set_out, length-sets, sets-eq}
 use Rattle.splice.specs.Splice.{splice}
 
 -- ---- What callers cite
@@ -77,21 +73,14 @@ module _ (m : List ℕ) (at : ℕ) (s now : List ℕ) (i : ℕ) (a : Writing m a
 
 -- ---- write
 
--- as many bytes as fit
-splice_taken : (m : List ℕ) (at n : ℕ) (s : List ℕ) → at ≤ length m → n ≡ min (length s) (length m - at) → splice m at (take n s) ≡ splice m at s
-splice_taken m at n s le e = go (ltb (length m - at) (length s)) refl
-  where
-    go : (t : Bool) → ltb (length m - at) (length s) ≡ t → splice m at (take n s) ≡ splice m at s
-    go true q = let lt = ltb-true _ _ q in let k : n ≡ length m - at = omega arith in rw k (splice_front m at s le lt)
-    go false q = let ge = ltb-false _ _ q in ap (splice m at) (take_all n s (omega arith))
-
-pub write_copied : (m : List ℕ) (at n : ℕ) (s ys : List ℕ) → at ≤ length m → n ≡ min (length s) (length m - at) → ys ≡ take n s → put_mid at (at + n - at) m ys ≡ splice m at s
-write_copied m at n s ys le e w =
-    let l : length (take n s) ≡ n = length-take-le n s (omega arith) in
-    let k : at + n - at ≡ n = omega arith in
-    rw (w, k, drop-drop n at m, ← append_assoc) (ap (λ (j : ℕ). take at m ++ take n s ++ drop (at + j) m) (sym l))
-    ∙ sym (splice_fits m at (take n s) (omega arith))
-    ∙ splice_taken m at n s le e
-
 pub write_past : (m : List ℕ) (at : ℕ) (s : List ℕ) → length m < at → m ≡ splice m at s
 write_past m at s lt = sym (splice_past m at s (omega arith))
+
+pub front_size : (n : ℕ) (s : List ℕ) → n < length s → n ≡ length (take n s)
+front_size n s lt = sym (length-take-le n s (omega arith))
+
+pub front_fits : (m : List ℕ) (at : ℕ) (s : List ℕ) → at ≤ length m → length m - at < length s → at + length (take (length m - at) s) ≤ length m
+front_fits m at s le lt = let e = front_size (length m - at) s lt in omega arith
+
+pub write_front : (m m' : List ℕ) (at : ℕ) (s : List ℕ) → at ≤ length m → length m - at < length s → m' ≡ splice m at (take (length m - at) s) → m' ≡ splice m at s
+write_front m m' at s le lt e = e ∙ splice_front m at s le lt

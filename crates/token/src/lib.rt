@@ -174,7 +174,8 @@ fn read_at(t: &[u8; 256], s: &[u8], at: usize) -> TokenRead
     mark_at(s, at)
 }
 
-// The token at a position, after spaces and comments, by a table of classes that the caller made: for code that reads many tokens.
+// The token at a position, after spaces and comments, by a table of classes that the caller made: for code that reads many tokens, inlined in its loop.
+#[inline(always)]
 pub fn token_in(t: &[u8; 256], s: &[u8], at: usize) -> TokenRead
     requires { Classified t.now }
     ensures { TokenAt class s.now at result }

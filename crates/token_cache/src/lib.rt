@@ -70,7 +70,8 @@ pub fn note(c: &[u64; 16384], at: usize) -> u32
 }
 
 impl<'a> Tokens<'a> {
-    // The token at a position, after spaces and comments.
+    // The token at a position, after spaces and comments. Inlined, since most tokens are in the cache, and the grammar reads each.
+    #[inline(always)]
     pub fn token_at(&self, at: usize) -> TokenRead
         ensures { TokenAt class self.now.source.now at result }
     {

@@ -72,7 +72,7 @@ fn tokens_refused(s: &[u8]) -> Result<(), LoadRefusal> {
 fn refused(s: &[u8]) -> u32 {
     match tokens_refused(s) {
         Ok(()) => 0,
-        Err(refusal) => refusal as u32,
+        Err(refusal) => answers::load_refusal_number(refusal),
     }
 }
 

@@ -269,7 +269,8 @@ fn frame_text(
     b
 }
 
-// The whole text from the buffer's start on: its length, or limit + 1 where it is longer.
+// The whole text from the buffer's start on: its length, or limit + 1 where it is longer. Never inlined, so that its array is not on the stack while the memories are tested.
+#[inline(never)]
 pub fn program_text(p: &[u32], l: &[u8], m: &mut [u8], limit: usize) -> usize
     requires { CanWrite p.now l.now m.old limit 0 }
     ensures { Appended m.old limit 0 (text (program_held p.now l.now)) m.new result }

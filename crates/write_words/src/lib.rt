@@ -62,7 +62,8 @@ pub fn append_name(p: &[u32], m: &mut [u8], limit: usize, at: usize, k: u32) -> 
     moved(limit, at, wide(tables::name_length(p, k)))
 }
 
-// An integer, with a space before it.
+// An integer, with a space before it. Never inlined, so that its digits are not on the stack at each level of a program.
+#[inline(never)]
 pub fn append_integer(m: &mut [u8], limit: usize, at: usize, n: i32) -> usize
     requires { CanAppend m.old limit at }
     ensures { Appended m.old limit at (integer_text n) m.new result }
@@ -73,7 +74,8 @@ pub fn append_integer(m: &mut [u8], limit: usize, at: usize, n: i32) -> usize
     append(m, limit, a, &bytes[start..])
 }
 
-// String literal k, with a space before it.
+// String literal k, with a space before it. Never inlined, likewise.
+#[inline(never)]
 pub fn append_string(p: &[u32], l: &[u8], m: &mut [u8], limit: usize, at: usize, k: u32) -> usize
     requires { AtLiteral p.now l.now k × CanAppend m.old limit at }
     ensures { Appended m.old limit at (string_text p.now l.now k) m.new result }
@@ -145,7 +147,8 @@ fn common_prefix(p: &[u32], holding: &[u32], j: u32, n: u32) -> u32
     n
 }
 
-// A path from the frame itself, with a space before it.
+// A path from the frame itself, with a space before it. Never inlined, likewise.
+#[inline(never)]
 pub fn append_self_path(p: &[u32], m: &mut [u8], limit: usize, at: usize, j: u32, n: u32) -> usize
     requires { AtPath p.now j n × CanAppend m.old limit at }
     ensures { Appended m.old limit at (self_path_text p.now j n) m.new result }
